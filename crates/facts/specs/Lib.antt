@@ -1,0 +1,3 @@
+pub mod System
+pub mod Lengths
+pub mod Tags

@@ -1,0 +1,9 @@
+pub mod Csv
+pub mod Malformed
+pub mod Numbers
+pub mod Scans
+pub mod Rows
+pub mod Outcomes
+pub mod Facts
+pub mod FactRows
+pub mod FactLoads

@@ -1,0 +1,6 @@
+pub mod Csv
+pub mod Numbers
+pub mod Fields
+pub mod Refusals
+pub mod Facts
+pub mod FactScan
