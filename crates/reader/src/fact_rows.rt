@@ -126,6 +126,7 @@ fn next_fact<'a, W: Words>(bytes: &'a [u8], row: u32) -> Result<(Fact, &'a [u8])
 fn load_rows<W: Words>(bytes: &[u8], table: &mut [Fact; MOST_FACTS]) -> Result<usize, FactFault>
     ensures answer { λ r. ⌜ refused-as fact-refusal r ≡ fact-count (fact-rows (W·Words .system .valid) 1 (rows (now (bytes .entry)))) ⌝ }
     ensures table { λ _. ⌜ now (table .exit) ≡ over (fact-front (W·Words .system .valid) 1 (rows (now (bytes .entry)))) (now (table .entry)) ⌝ }
+    ensures bound { λ r. ⌜ Cases r (λ n. n ≤ most-facts) (λ _. Unit {0}) ⌝ }
 {
     let mut count = 0;
     let mut rest = bytes;
@@ -146,6 +147,7 @@ pub fn load_facts<W: Words>(
 ) -> Result<usize, Refusal>
     ensures answer { λ r. ⌜ r ≡ fact-count (facts-file (W·Words .system .valid) (mapped now (file .entry))) ⌝ }
     ensures table { λ _. ⌜ now (table .exit) ≡ over (facts-before (W·Words .system .valid) (mapped now (file .entry))) (now (table .entry)) ⌝ }
+    ensures bound { λ r. ⌜ Cases r (λ n. n ≤ most-facts) (λ _. Unit {0}) ⌝ }
     ensures loaded { λ r. ⌜ Facts-loaded (W·Words .system .valid) (mapped now (file .entry)) r (now (table .exit)) ⌝ }
 {
     let whole_file = Refusal {

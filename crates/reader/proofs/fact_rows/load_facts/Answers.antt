@@ -10,9 +10,9 @@ pub returns-in-Break-load-rows : need.returns-in-Break-load-rows
 returns-in-Break-load-rows g c =
     let p = err-from-errBy (c .from-residual .result) (c .from-residual .ensures .1) in
     let r = short-loaded (g .W·Words .system .valid) (mapped now (c .args .file)) (c .in-Some .bytes .now) (c .args .table .now) (c .load-rows .last .table) _ (ap (mapped now) (c .in-Some .is)) (omega arith) (c .in-Break-load-rows .ensures tt .answer) (c .in-Break-load-rows .ensures tt .table) in
-    rw (p .1, p .2) (record { answer = r .0; table = r .1; loaded = r .2 })
+    rw (p .1, p .2) (record { answer = r .0; table = r .1; bound = tt; loaded = r .2 })
 
 pub returns : need.returns
 returns g c =
     let r = short-loaded (g .W·Words .system .valid) (mapped now (c .args .file)) (c .in-Some .bytes .now) (c .args .table .now) (c .load-rows .last .table) _ (ap (mapped now) (c .in-Some .is)) (omega arith) (c .in-Continue-load-rows .ensures tt .answer) (c .in-Continue-load-rows .ensures tt .table) in
-    record { answer = r .0; table = r .1; loaded = r .2 }
+    record { answer = r .0; table = r .1; bound = c .in-Continue-load-rows .ensures tt .bound; loaded = r .2 }

@@ -13,7 +13,7 @@ returns-in-Break-fact g c =
     let p = err-from-errBy (c .from-residual .result) (c .from-residual .ensures .1) in
     let some : 1 ≤ length (c .loop-rest .rest .now) = let e = c .loop-rest-test .ensures tt in grind (arith, tells) in
     let r = loading-refused (g .W·Words .system .valid) (c .args .bytes .now) (c .args .table .now) (c .loop-rest .table) (c .loop-rest .count) (c .loop-rest .rest .now) (c .loop-rest .inv) _ some (c .in-Break-fact .ensures tt .step) in
-    rw (p .1, p .2) (record { answer = r .0; table = r .1 })
+    rw (p .1, p .2) (record { answer = r .0; table = r .1; bound = tt })
 
 some-left : (g : given.Over) (c : need.After-more·1 g) → 1 ≤ length (c .loop-rest .rest .now)
 some-left g c = let e = c .loop-rest-test .ensures tt in grind (arith, tells)
@@ -30,4 +30,4 @@ pub returns : need.returns
 returns g c =
     let none : length (c .loop-rest .rest .now) ≤ 0 = let e = c .loop-rest-test .ensures tt in grind (arith, tells) in
     let r = loading-all (g .W·Words .system .valid) (c .args .bytes .now) (c .args .table .now) (c .loop-rest .table) (c .loop-rest .count) (c .loop-rest .rest .now) (c .loop-rest .inv) none in
-    record { answer = r .0; table = r .1 }
+    record { answer = r .0; table = r .1; bound = c .loop-rest .inv .few }
