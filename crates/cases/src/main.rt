@@ -23,7 +23,10 @@ fn layer_name(layer: Layer) -> &'static str {
 }
 
 fn print_fact<R: Print>(rt: &R, fact: &Fact) -> io::Result<()> {
-    let Fact { kind, words: [first, second, third] } = *fact;
+    let Fact {
+        kind,
+        words: [first, second, third],
+    } = *fact;
     println!(rt, "  {kind},{first},{second},{third}")
 }
 
@@ -39,13 +42,24 @@ fn print_facts<R: Print>(rt: &R, name: &str, facts: &[Fact]) -> io::Result<()> {
 }
 
 fn print_refusal<R: Print>(rt: &R, name: &str, refusal: &Refusal) -> io::Result<()> {
-    let Refusal { number, row, field, layer } = *refusal;
+    let Refusal {
+        number,
+        row,
+        field,
+        layer,
+    } = *refusal;
     let layer = layer_name(layer);
-    println!(rt, "{name}: refused {number}, row {row}, field {field}, {layer}")
+    println!(
+        rt,
+        "{name}: refused {number}, row {row}, field {field}, {layer}"
+    )
 }
 
 fn run_case<R: Print>(rt: &R, name: &str, file: Option<&[u8]>) -> io::Result<()> {
-    let mut table = [Fact { kind: 0, words: [0; WORDS] }; MOST_FACTS];
+    let mut table = [Fact {
+        kind: 0,
+        words: [0; WORDS],
+    }; MOST_FACTS];
     match load_facts::<Lengths>(file, &mut table) {
         Ok(count) => print_facts(rt, name, &table[0..count]),
         Err(refusal) => print_refusal(rt, name, &refusal),

@@ -1,7 +1,9 @@
 -- Lengths: signed numbers of 32 bits. Sums and differences are exact, and have no value outside the range.
-use mathlib.Core.Bool.{Bool, false, not, _&&_, cond}
+use mathlib.Core.Path.{_≡_}
+use mathlib.Core.Bool.{Bool, true, false, not, _&&_, cond}
+use mathlib.Core.Logic.{_↔_}
 use lib.IntN.{ℤ, pos, negsuc, _+ℤ_, _-ℤ_}
-use lib.Signed.{leZ, ltZ}
+use lib.Signed.{leZ, ltZ, _≤ℤ_, _<ℤ_}
 use Rattle.std.specs.declared.option.Option.{Option}
 use Rattle.std.specs.declared.option.Option.the-variants.{Some, None}
 use Rattle.facts.specs.System.{System}
@@ -38,3 +40,15 @@ lengths =
       value = λ o a b. cond (in-range a && in-range b) (within (exact o a b)) None;
       holds = λ r a b. cond (in-range a && in-range b) (compared r a b) false;
     }
+
+-- what it means, in the language of numbers ---------------------------------------------------------------
+
+abbrev pub Meant : Relation → ℤ → ℤ → Type 0
+Meant Equal a b = a ≡ b
+Meant Unequal a b = a ≡ b → ⊥
+Meant AtMost a b = a ≤ℤ b
+Meant Less a b = a <ℤ b
+
+-- two lengths stand in a relation exactly where the numbers do
+abbrev pub Compares-numbers : Relation → ℤ → ℤ → Bool → Type 0
+Compares-numbers r a b answer = in-range a ≡ true → in-range b ≡ true → (answer ≡ true) ↔ Meant r a b

@@ -1,3 +1,4 @@
 pub mod System
 pub mod Lengths
 pub mod Tags
+pub mod WordExamples

@@ -4,7 +4,7 @@ use crate::fact_types::Relation;
 use crate::words_trait::Words;
 ghost use mathlib.Core.Path.{_≡_};
 ghost use mathlib.Core.Bool.{true};
-ghost use Rattle.facts.specs.Lengths.{lengths, in-range, exact, within};
+ghost use Rattle.facts.specs.Lengths.{lengths, in-range, exact, within, compared, Compares-numbers};
 
 /// The word system of lengths along the line.
 #[derive(Clone, Copy)]
@@ -37,6 +37,17 @@ fn within_range(number: i64) -> Option<i64>
     if in_range(number) { Some(number) } else { None }
 }
 
+fn compare(relation: Relation, left: i64, right: i64) -> bool
+    ensures { λ r. ⌜ r ≡ compared relation left right ⌝ }
+{
+    match relation {
+        Relation::Equal => left == right,
+        Relation::Unequal => left != right,
+        Relation::AtMost => left <= right,
+        Relation::Less => left < right,
+    }
+}
+
 pub impl Words for Lengths as LengthsWords {
     ghost system = { lengths };
 
@@ -52,15 +63,14 @@ pub impl Words for Lengths as LengthsWords {
         }
     }
 
-    fn holds(relation: Relation, left: i64, right: i64) -> bool {
-        if !(in_range(left) && in_range(right)) {
-            return false;
-        }
-        match relation {
-            Relation::Equal => left == right,
-            Relation::Unequal => left != right,
-            Relation::AtMost => left <= right,
-            Relation::Less => left < right,
+    fn holds(relation: Relation, left: i64, right: i64) -> bool
+        ensures value { λ r. ⌜ r ≡ lengths .holds relation left right ⌝ }
+        ensures numbers { λ r. ⌜ Compares-numbers relation left right r ⌝ }
+    {
+        if in_range(left) && in_range(right) {
+            compare(relation, left, right)
+        } else {
+            false
         }
     }
 }

@@ -13,10 +13,11 @@ use Rattle.std.proofs.shelf.Lists.{take-more-set, drop-set-lt, drop-drop, take-
 use Rattle.std.specs.declared.option.Option.{Option}
 use Rattle.std.specs.declared.option.Option.the-variants.{Some, None}
 use Rattle.reader.proofs.Facts.{file-read, file-was}
+use Rattle.reader.proofs.Named.{answer-named}
 use Rattle.reader.proofs.Outcomes.{no-ok, same-ok, bind-ok}
 use Rattle.reader.proofs.Rows.{rows-step, rows-end, row-shorter}
 use Rattle.reader.specs.Csv.{Part, Read, got, broken, read-row, counted, Row, fields, malformed, behind-row, rows}
-use Rattle.reader.specs.Refusals.{Outcome, refusal, refuse, _>>=_, most-bytes}
+use Rattle.reader.specs.Refusals.{Outcome, refusal, refuse, _>>=_, most-bytes, Named}
 use lib.Dec.{ltb}
 use Rattle.std.proofs.shelf.Tests.{le-ltb}
 use Rattle.reader.specs.Facts.{most-facts, fact-row, fact-rows, fact-front, kept, fact-count, facts-of, facts-file, front-of, facts-before, over, File-written, Facts-loaded}
@@ -183,9 +184,9 @@ loaded-so valid (Some bs) old table r a t =
         ∙ take-at facts (drop (length facts) old) (length facts) refl
 
 -- a file that is there and short enough
-pub short-loaded : (valid : ℤ → Bool) (file : Option (List ℕ)) (bs : List ℕ) (old table : List Fact) (r : Outcome ℕ) → file ≡ Some bs → length bs ≤ most-bytes → r ≡ fact-count (fact-rows valid 1 (rows bs)) → table ≡ over (fact-front valid 1 (rows bs)) old → (r ≡ fact-count (facts-file valid file)) × (table ≡ over (facts-before valid file) old) × Facts-loaded valid file r table
+pub short-loaded : (valid : ℤ → Bool) (file : Option (List ℕ)) (bs : List ℕ) (old table : List Fact) (r : Outcome ℕ) → file ≡ Some bs → length bs ≤ most-bytes → r ≡ fact-count (fact-rows valid 1 (rows bs)) → table ≡ over (fact-front valid 1 (rows bs)) old → (r ≡ fact-count (facts-file valid file)) × (table ≡ over (facts-before valid file) old) × Named r × Facts-loaded valid file r table
 short-loaded valid file bs old table r e short a t =
     let under = le-ltb most-bytes (length bs) short in
     let answer : r ≡ fact-count (facts-file valid file) = rw (e, under) a in
     let after : table ≡ over (facts-before valid file) old = rw (e, under) t in
-    (answer, after, loaded-so valid file old table r answer after)
+    (answer, after, answer-named valid file r answer, loaded-so valid file old table r answer after)

@@ -12,7 +12,7 @@ use Rattle.std.specs.declared.option.Option.{Option}
 use Rattle.std.specs.declared.option.Option.the-variants.{Some, None}
 use Rattle.std.specs.declared.result.Result.{Result}
 use Rattle.std.specs.declared.result.Result.the-variants.{Ok, Err}
-use Rattle.std.proofs.shelf.Tests.{cond-both, eq-eqb, ne-eqb, lt-ltb, le-ltb}
+use Rattle.std.proofs.shelf.Tests.{cond-both, eq-eqb, ne-eqb}
 use Rattle.std.proofs.shelf.Lists.{take-all}
 use Rattle.std.proofs.shelf.Ways.{tells}
 use Rattle.reader.specs.Csv.{Part, bare, quoted, content, Read, got, broken, read-field, Next, file-ends, next-field, next-row, neither, next, go-on, behind-field, behind, separated, read-separated, read-row, counted, fields}
@@ -228,16 +228,16 @@ module _ (valid : ℤ → Bool) (row : ℕ) (bs : List ℕ) where
         go [] l r e = absurd (omega arith)
         go (f ∷ fs) l r e = (f, fs, omega arith, r, e ∙ rw (eq-eqb (suc (length fs)) (words + 1) l) refl)
 
-    pub step-late : n ≡ words + 1 → most-facts < row → refuse 11 row 0 Job ≡ fact-step valid row bs
-    step-late all late = let a = even all in sym (a .4 ∙ rw (lt-ltb most-facts row late) refl)
+    pub step-late : n ≡ words + 1 → ltb most-facts row ≡ true → refuse 11 row 0 Job ≡ fact-step valid row bs
+    step-late all late = let a = even all in sym (a .4 ∙ rw late refl)
 
-    judged : n ≡ words + 1 → row ≤ most-facts → fact-step valid row bs ≡ (fact-at valid row bs >>= λ x. Ok (x, rest))
+    judged : n ≡ words + 1 → ltb most-facts row ≡ false → fact-step valid row bs ≡ (fact-at valid row bs >>= λ x. Ok (x, rest))
     judged all few =
         let a = even all in
-        a .4 ∙ rw (le-ltb most-facts row few) (ap (λ (r : Outcome Fact). r >>= λ x. Ok (x, rest)) (sym (fact-of-row valid row (a .0) (a .1) bs rest (a .2) (a .3))))
+        a .4 ∙ rw few (ap (λ (r : Outcome Fact). r >>= λ x. Ok (x, rest)) (sym (fact-of-row valid row (a .0) (a .1) bs rest (a .2) (a .3))))
 
-    pub step-refused : n ≡ words + 1 → row ≤ most-facts → (e : Refusal) → Err e ≡ fact-at valid row bs → Err e ≡ fact-step valid row bs
+    pub step-refused : n ≡ words + 1 → ltb most-facts row ≡ false → (e : Refusal) → Err e ≡ fact-at valid row bs → Err e ≡ fact-step valid row bs
     step-refused all few e k = sym (judged all few ∙ rw (← k) refl)
 
-    pub step-made : n ≡ words + 1 → row ≤ most-facts → (f : Fact) → Ok f ≡ fact-at valid row bs → Ok (f, rest) ≡ fact-step valid row bs
+    pub step-made : n ≡ words + 1 → ltb most-facts row ≡ false → (f : Fact) → Ok f ≡ fact-at valid row bs → Ok (f, rest) ≡ fact-step valid row bs
     step-made all few f k = sym (judged all few ∙ rw (← k) refl)

@@ -6,4 +6,6 @@ pub mod Rows
 pub mod Outcomes
 pub mod Facts
 pub mod FactRows
+pub mod Named
 pub mod FactLoads
+pub mod FactExamples

@@ -129,14 +129,11 @@ scanned-other bs n i h d s =
     let no : all-digits bs ≡ false = s .all ∙ ap all-digits (drop-more bs i 0 h) ∙ rw d in
     rw no
 
-pub too-few : (bs : List ℕ) → length bs ≤ 0 → None ≡ unsigned bs
-too-few [] l = refl
-too-few (b ∷ bs) l = absurd (omega arith)
-
-pub too-many : (bs : List ℕ) → 10 < length bs → None ≡ unsigned bs
-too-many bs l =
-    let no : digits bs ≡ false = and-right (all-digits bs) (leb 1 (length bs) && leb (length bs) 10) (and-right (leb 1 (length bs)) (leb (length bs) 10) (lt-leb (length bs) 10 l)) in
-    rw no
+-- one to ten digits
+pub right-length-is : (bs : List ℕ) → (leb 1 (length bs) && leb (length bs) 10) ≡ true → (1 ≤ length bs) × (length bs ≤ 10)
+right-length-is bs h =
+    let p = and-parts (leb 1 (length bs)) (leb (length bs) 10) h in
+    (leb-true 1 (length bs) (p .0), leb-true (length bs) 10 (p .1))
 
 -- the sign ----------------------------------------------------------------------------------------------------
 

@@ -4,3 +4,4 @@ pub mod Fields
 pub mod Refusals
 pub mod Facts
 pub mod FactScan
+pub mod FactExamples

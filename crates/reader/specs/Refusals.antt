@@ -1,10 +1,13 @@
 -- What a file's reading comes to: a value, or the refusal of a row.
+use mathlib.Core.Path.{_≡_}
+use mathlib.Core.Bool.{Bool, true, false, _&&_, _||_}
 use Prim.Native.Nat.{ℕ}
+use lib.Dec.{eqb, leb}
 use Rattle.std.specs.declared.result.Result.{Result}
 use Rattle.std.specs.declared.result.Result.the-variants.{Ok, Err}
 use Rattle.reader.specs.declared.field_types.Place.{Place}
 use Rattle.reader.specs.declared.fault_types.Layer.{Layer}
-use Rattle.reader.specs.declared.fault_types.Layer.the-variants.{Reader, Job}
+use Rattle.reader.specs.declared.fault_types.Layer.the-variants.{Reader, RuleSet, Job}
 use Rattle.reader.specs.declared.fault_types.Refusal.{Refusal}
 use Rattle.reader.specs.declared.fault_types.FieldFault.{FieldFault}
 use Rattle.reader.specs.declared.fault_types.FactFault.{FactFault}
@@ -41,3 +44,30 @@ fact-refusal (Word place) = refusal 2 (place .row) (place .field) Job
 
 abbrev pub most-bytes : ℕ
 most-bytes = 65536
+
+-- what a refusal names: its number tells its layer, and whether it names a field ------------------------------
+
+abbrev pub names-field : ℕ → ℕ → Bool
+names-field width field = leb 1 field && leb field width
+
+-- 7 names a whole row and 8 a field, and both are the reader's
+abbrev pub by-reader : ℕ → ℕ → ℕ → Bool
+by-reader width number field = (eqb number 7 && eqb field 0) || (eqb number 8 && names-field width field)
+
+-- of facts, 1 and 2 name a field and 11 a whole row, and these are the job's
+abbrev pub by-job : ℕ → ℕ → ℕ → Bool
+by-job width number field = ((eqb number 1 || eqb number 2) && names-field width field) || (eqb number 11 && eqb field 0)
+
+abbrev pub by-layer : Layer → ℕ → ℕ → ℕ → Bool
+by-layer Reader width number field = by-reader width number field
+by-layer RuleSet width number field = false
+by-layer Job width number field = by-job width number field
+
+-- a refusal of a row of four fields
+abbrev pub facts-refusal : Refusal → Bool
+facts-refusal r = by-layer (r .layer) 4 (r .number) (r .field)
+
+-- every refusal is such a one
+abbrev pub Named : {X : Type 0} → Outcome X → Type 0
+Named (Ok x) = Unit {0}
+Named (Err r) = facts-refusal r ≡ true

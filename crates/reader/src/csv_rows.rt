@@ -96,15 +96,15 @@ pub fn read_row<'a>(bytes: &'a [u8]) -> Option<(usize, &'a [u8])>
     ensures reads { λ r. ⌜ count-seen r ≡ counted (read-row (now (bytes .entry))) ⌝ }
     ensures grammar { λ r. ⌜ Row-grammar (now (bytes .entry)) (count-seen r) ⌝ }
 {
-    let mut count = 0;
+    let mut fields = 0;
     let mut rest = bytes;
     loop {
         let (_, after) = read_part(rest)?;
-        count += 1;
+        fields += 1;
         match after_field(after) {
             After::Field(more) => rest = more,
-            After::Row(more) => return Some((count, more)),
-            After::FileEnd => return Some((count, after)),
+            After::Row(more) => return Some((fields, more)),
+            After::FileEnd => return Some((fields, after)),
             After::Neither => return None,
         }
     }
@@ -115,16 +115,16 @@ pub fn row_count(bytes: &[u8]) -> Result<usize, usize>
     ensures reads { λ r. ⌜ r ≡ row-count (rows (now (bytes .entry))) ⌝ }
     ensures grammar { λ r. ⌜ File-grammar (now (bytes .entry)) r ⌝ }
 {
-    let mut count = 0;
+    let mut rows = 0;
     let mut rest = bytes;
     while !rest.is_empty() {
-        count += 1;
+        rows += 1;
         match read_row(rest) {
             Some((_, more)) => rest = more,
-            None => return Err(count),
+            None => return Err(rows),
         }
     }
-    Ok(count)
+    Ok(rows)
 }
 
 fn is_letter(text: &[u8]) -> bool
@@ -161,5 +161,25 @@ pub fn read_field<'a>(bytes: &'a [u8], place: Place) -> Option<(Field<'a>, &'a [
         After::Field(more) | After::Row(more) => Some((field, more)),
         After::FileEnd => Some((field, after)),
         After::Neither => None,
+    }
+}
+
+#[cfg(test)]
+mod tests {
+    use super::*;
+    use std::test::*;
+
+    #[test]
+    fn rows_are_counted() -> Result<(), Fail> {
+        check_eq(row_count(b""), Ok(0))?;
+        check_eq(row_count(b"\r\n"), Ok(1))?;
+        check_eq(row_count(b"1,2\r\n3,4"), Ok(2))?;
+        check_eq(row_count(b"\"1\r\n2\",3"), Ok(1))
+    }
+
+    #[test]
+    fn malformed_rows_are_named() -> Result<(), Fail> {
+        check_eq(row_count(b"1,2\n3,4"), Err(1))?;
+        check_eq(row_count(b"1,2\r\n3,\"4\r\n5,6"), Err(2))
     }
 }

@@ -16,8 +16,9 @@ use facts::WORDS;
 use facts::Words;
 ghost use mathlib.Core.Path.{_≡_};
 ghost use Rattle.reader.specs.Fields.{field-seen, place-of, number-in};
-ghost use Rattle.reader.specs.Refusals.{refused-as, fact-refusal};
+ghost use Rattle.reader.specs.Refusals.{refused-as, fact-refusal, Named};
 ghost use Prim.Native.Nat.{_≤_};
+ghost use lib.Dec.{ltb};
 ghost use Rattle.std.specs.Results.{Cases};
 ghost use Rattle.std.specs.Options.{mapped};
 ghost use Rattle.reader.specs.Csv.{rows};
@@ -106,6 +107,12 @@ fn read_fact<W: Words>(bytes: &[u8], row: u32) -> Result<Fact, FactFault>
     Ok(Fact { kind, words })
 }
 
+fn one_too_many(row: u32) -> bool
+    ensures { λ r. ⌜ r ≡ ltb most-facts row ⌝ }
+{
+    row as usize > MOST_FACTS
+}
+
 fn next_fact<'a, W: Words>(bytes: &'a [u8], row: u32) -> Result<(Fact, &'a [u8]), FactFault>
     ensures step { λ r. ⌜ refused-as fact-refusal (step-seen r) ≡ fact-step (W·Words .system .valid) row (now (bytes .entry)) ⌝ }
     ensures bound { λ r. ⌜ Cases r (λ _. row ≤ most-facts) (λ _. Unit {0}) ⌝ }
@@ -116,7 +123,7 @@ fn next_fact<'a, W: Words>(bytes: &'a [u8], row: u32) -> Result<(Fact, &'a [u8])
     if count != WORDS + 1 {
         return Err(FactFault::Malformed(row));
     }
-    if row as usize > MOST_FACTS {
+    if one_too_many(row) {
         return Err(FactFault::TooMany(row));
     }
     let fact = read_fact::<W>(bytes, row)?;
@@ -148,6 +155,7 @@ pub fn load_facts<W: Words>(
     ensures answer { λ r. ⌜ r ≡ fact-count (facts-file (W·Words .system .valid) (mapped now (file .entry))) ⌝ }
     ensures table { λ _. ⌜ now (table .exit) ≡ over (facts-before (W·Words .system .valid) (mapped now (file .entry))) (now (table .entry)) ⌝ }
     ensures bound { λ r. ⌜ Cases r (λ n. n ≤ most-facts) (λ _. Unit {0}) ⌝ }
+    ensures named { λ r. ⌜ Named r ⌝ }
     ensures loaded { λ r. ⌜ Facts-loaded (W·Words .system .valid) (mapped now (file .entry)) r (now (table .exit)) ⌝ }
 {
     let whole_file = Refusal {

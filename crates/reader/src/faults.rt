@@ -10,8 +10,8 @@ ghost use Rattle.reader.specs.declared.fault_types.FactFault.the-variants.{Fie
 pub impl From<FieldFault> for FactFault as FactFaultFromField {
     ghost converts = { λ e r. r ≡ Field e };
 
-    fn from(fault: FieldFault) -> FactFault {
-        FactFault::Field(fault)
+    fn from(field: FieldFault) -> FactFault {
+        FactFault::Field(field)
     }
 }
 

@@ -1,5 +1,6 @@
 //! The files of a job, from their bytes: rows by RFC 4180, fields, numbers, and the loader of facts.
 mod csv_rows;
+mod fact_examples;
 mod fact_rows;
 mod fault_types;
 mod faults;
@@ -9,6 +10,7 @@ mod number_text;
 pub use csv_rows::read_field;
 pub use csv_rows::read_row;
 pub use csv_rows::row_count;
+pub use fact_examples::load_looped_line;
 pub use fact_rows::MOST_BYTES;
 pub use fact_rows::MOST_FACTS;
 pub use fact_rows::load_facts;

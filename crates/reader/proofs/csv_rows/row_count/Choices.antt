@@ -6,7 +6,7 @@ use Rattle.reader.proofs.Rows.{past}
 use Rattle.reader.proofs.csv_rows.row_count.Given as given
 
 abbrev pub Inv-loop-rest : given.InvT-loop-rest
-Inv-loop-rest l = (l .count + length (l .rest) ≤ length (l .bytes)) × (row-count (rows (l .bytes)) ≡ past (l .count) (row-count (rows (l .rest))))
+Inv-loop-rest l = (l .rows + length (l .rest) ≤ length (l .bytes)) × (row-count (rows (l .bytes)) ≡ past (l .rows) (row-count (rows (l .rest))))
 
 abbrev pub μ-loop-rest : given.MeasureT-loop-rest
 μ-loop-rest l = length (l .rest)

@@ -1,9 +1,6 @@
-use mathlib.Core.Path.{_≡_, sym}
-use Prim.Native.Nat.{_≤_}
+use mathlib.Core.Path.{sym}
 use native.Mathlib.Omega.{arith}
-use lib.ListN.{length}
-use Rattle.std.proofs.shelf.Ways.{tells}
-use Rattle.reader.proofs.Numbers.{scanned-none, scanned-more, scanned-fits, scanned-all, scanned-other, too-few, too-many}
+use Rattle.reader.proofs.Numbers.{scanned-more, scanned-fits, scanned-all, scanned-other, right-length-is}
 use Rattle.reader.proofs.number_text.unsigned_number.Needs as need
 
 pub returns-then-not-is-digit : need.returns-then-not-is-digit
@@ -19,8 +16,8 @@ loop-byte-again c =
 
 pub returns : need.returns
 returns c =
-    let some : 1 ≤ length (c .args .text .now) = let e = c .if-is-empty .ensures tt in grind (arith, tells) in
+    let right = right-length-is (c .args .text .now) (sym (c .if-not-right-length .ensures tt)) in
     record {
-      value = scanned-all (c .args .text .now) (c .loop-byte .value) (c .loop-byte .byte-index) some (omega arith) (c .loop-byte-test .left) (c .loop-byte .inv);
-      bound = scanned-fits (c .args .text .now) (c .loop-byte .value) (c .loop-byte .byte-index) (omega arith) (omega arith) (c .loop-byte .inv);
+      value = scanned-all (c .args .text .now) (c .loop-byte .value) (c .loop-byte .byte-index) (right .0) (right .1) (c .loop-byte-test .left) (c .loop-byte .inv);
+      bound = scanned-fits (c .args .text .now) (c .loop-byte .value) (c .loop-byte .byte-index) (right .1) (omega arith) (c .loop-byte .inv);
     }
