@@ -9,10 +9,10 @@ use lib.Dec.{eqb, leb}
 use lib.ListN.{length, length-append}
 use Rattle.std.proofs.shelf.Tests.{eq-eqb, eqb-true, eqb-false, ne-eqb, and-parts, and-from, or-cases, or-parts, cond-both, cases-bool}
 use Rattle.std.proofs.shelf.Ways.{tells}
-use Rattle.reader.specs.Csv.{quote, comma, cr, lf, text, loose, Part, bare, quoted, Bare, Escaped, Field-written, Row-written, Written, Read, got, broken, before, read-bare, read-escaped, made, read-field, Next, file-ends, next-field, next-row, neither, next, with-field, go-on, behind-field, read-fields, read-row, Row, fields, malformed, behind-row, read-rows, rows}
+use Rattle.reader.specs.Csv.{quote, comma, cr, lf, text, loose, Part, bare, quoted, Bare, Escaped, Field-written, Row-written, Written, Ends, Read, got, broken, before, read-bare, read-escaped, made, read-field, Next, file-ends, next-field, next-row, neither, next, with-field, go-on, behind-field, read-fields, read-row, Row, fields, malformed, behind-row, read-rows, rows}
 
 -- a byte that ends a bare field
-abbrev Stops : List ℕ → Type 0
+abbrev pub Stops : List ℕ → Type 0
 Stops [] = Unit {0}
 Stops (b ∷ bs) = (text b ≡ false) × (eqb b quote ≡ false)
 
@@ -45,7 +45,7 @@ escaped-read rest (Escaped.end) s = ends rest s
 escaped-read rest (Escaped.byte {b} {bs} h w) s = escaped-more b bs rest h ∙ ap (before (b ∷ [])) (escaped-read rest w s)
 escaped-read rest (Escaped.doubled {bs} w) s = rw (escaped-read rest w s)
 
-field-read : {f : Part} {bs : List ℕ} (rest : List ℕ) → Field-written f bs → Stops rest → read-field (bs ++ rest) ≡ got f rest
+pub field-read : {f : Part} {bs : List ℕ} (rest : List ℕ) → Field-written f bs → Stops rest → read-field (bs ++ rest) ≡ got f rest
 field-read rest (Field-written.plain w) s = start rest w s
   where
     start : {bs : List ℕ} (rest : List ℕ) → Bare bs → Stops rest → read-field (bs ++ rest) ≡ got (bare bs) rest
@@ -55,24 +55,19 @@ field-read rest (Field-written.plain w) s = start rest w s
         rw (text-no-quote b h) (ap (made bare) (bare-read rest (Bare.byte h w) s))
 field-read rest (Field-written.escaped {bs} w) s = rw append-assoc (ap (made quoted) (escaped-read rest w s))
 
--- what follows a row, and what follows its end
-pub data Tail : List ℕ → List ℕ → Type 0 where
-  none : Tail [] []
-  crlf : {cs : List ℕ} → Tail (cr ∷ (lf ∷ cs)) cs
-
-tail-stops : {t rest : List ℕ} → Tail t rest → Stops t
-tail-stops Tail.none = tt
-tail-stops Tail.crlf = (refl, refl)
+tail-stops : {t rest : List ℕ} → Ends t rest → Stops t
+tail-stops Ends.file = tt
+tail-stops Ends.line = (refl, refl)
 
 pub next-comma : (bs : List ℕ) → next (comma ∷ bs) ≡ next-field bs
 next-comma [] = refl
 next-comma (b ∷ bs) = refl
 
-tail-ends : {t rest : List ℕ} (read : List ℕ → Read (List Part)) (f : Part) → Tail t rest → go-on read f (next t) ≡ got (f ∷ []) rest
-tail-ends read f Tail.none = refl
-tail-ends read f Tail.crlf = refl
+tail-ends : {t rest : List ℕ} (read : List ℕ → Read (List Part)) (f : Part) → Ends t rest → go-on read f (next t) ≡ got (f ∷ []) rest
+tail-ends read f Ends.file = refl
+tail-ends read f Ends.line = refl
 
-pub row-read : {fs : List Part} {bs : List ℕ} {t rest : List ℕ} (n : ℕ) → Row-written fs bs → Tail t rest → length bs < n → read-fields n (bs ++ t) ≡ got fs rest
+pub row-read : {fs : List Part} {bs : List ℕ} {t rest : List ℕ} (n : ℕ) → Row-written fs bs → Ends t rest → length bs < n → read-fields n (bs ++ t) ≡ got fs rest
 row-read zero w e l = absurd (omega arith)
 row-read {t = t} (suc n) (Row-written.one {f} {bs} w) e l = rw (field-read t w (tail-stops e)) (tail-ends (read-fields n) f e)
 row-read {t = t} (suc n) (Row-written.more {f} {bs} {fs} {cs} w ws) e l =
@@ -97,11 +92,11 @@ rows-read (suc n) (Written.ended {fs} {bs} {rest} {cs} w ws) l =
     let long = length-append bs (cr ∷ (lf ∷ cs)) in
     let short : length cs ≤ n = omega arith in
     rows-step n (bs ++ (cr ∷ (lf ∷ cs))) (omega arith)
-    ∙ ap (behind-row (read-rows n)) (row-read (suc (length (bs ++ (cr ∷ (lf ∷ cs))))) w Tail.crlf (omega arith))
+    ∙ ap (behind-row (read-rows n)) (row-read (suc (length (bs ++ (cr ∷ (lf ∷ cs))))) w Ends.line (omega arith))
     ∙ ap (λ (x : List Row). fields fs ∷ x) (rows-read n ws short)
 rows-read zero (Written.open-ended w) l = absurd (omega arith)
 rows-read (suc n) (Written.open-ended {fs} {b} {bs} w) l =
-    ap (behind-row (read-rows n)) (ap (read-fields (suc (suc (length bs)))) (sym (append-nil (b ∷ bs))) ∙ row-read (suc (suc (length bs))) w Tail.none (omega arith))
+    ap (behind-row (read-rows n)) (ap (read-fields (suc (suc (length bs)))) (sym (append-nil (b ∷ bs))) ∙ row-read (suc (suc (length bs))) w Ends.file (omega arith))
     ∙ ap (λ (x : List Row). fields fs ∷ x) (rows-none n)
 
 pub reads-written : (rs : List (List Part)) (bs : List ℕ) → Written rs bs → rows bs ≡ map fields rs
@@ -215,7 +210,7 @@ next-was (b ∷ (c ∷ bs)) =
 
 -- a row was read of these bytes
 abbrev pub Row-was : List ℕ → List Part → List ℕ → Type 0
-Row-was bs fs rest = (cs t : List ℕ) × Row-written fs cs × Tail t rest × (bs ≡ cs ++ t)
+Row-was bs fs rest = (cs t : List ℕ) × Row-written fs cs × Ends t rest × (bs ≡ cs ++ t)
 
 pub with-got : (f : Part) (r : Read (List Part)) (fs : List Part) (rest : List ℕ) → with-field f r ≡ got fs rest → (gs : List Part) × (r ≡ got gs rest) × (f ∷ gs ≡ fs)
 with-got f (got gs rest′) fs rest e =
@@ -228,14 +223,14 @@ pub row-was : (n : ℕ) (bs : List ℕ) (fs : List Part) (rest : List ℕ) → r
 row-was zero bs fs rest e = absurd (no-got fs rest e)
 row-was (suc n) bs fs rest e = start (read-field bs) refl e (row-was n)
   where
-    last : (cs t : List ℕ) (f : Part) (rest′ : List ℕ) → Field-written f cs → bs ≡ cs ++ t → Tail t rest′ → got (f ∷ []) rest′ ≡ got fs rest → Row-was bs fs rest
+    last : (cs t : List ℕ) (f : Part) (rest′ : List ℕ) → Field-written f cs → bs ≡ cs ++ t → Ends t rest′ → got (f ∷ []) rest′ ≡ got fs rest → Row-was bs fs rest
     last cs t f rest′ w e a h =
         let same : rest′ ≡ rest = cc in
         let whole : f ∷ [] ≡ fs = cc in
-        (cs, t, subst (λ (x : List Part). Row-written x cs) whole (Row-written.one w), subst (λ (x : List ℕ). Tail t x) same a, e)
+        (cs, t, subst (λ (x : List Part). Row-written x cs) whole (Row-written.one w), subst (λ (x : List ℕ). Ends t x) same a, e)
 
     goes : (cs t : List ℕ) (f : Part) (x : Next) → Field-written f cs → bs ≡ cs ++ t → Follows t x → go-on (read-fields n) f x ≡ got fs rest → ((bs : List ℕ) (fs : List Part) (rest : List ℕ) → read-fields n bs ≡ got fs rest → Row-was bs fs rest) → Row-was bs fs rest
-    goes cs t f file-ends w e a h below = last cs [] f [] w (e ∙ ap (λ (x : List ℕ). cs ++ x) a) Tail.none h
+    goes cs t f file-ends w e a h below = last cs [] f [] w (e ∙ ap (λ (x : List ℕ). cs ++ x) a) Ends.file h
     goes cs t f (next-field more) w e a h below =
         let r = with-got f (read-fields n more) fs rest h in
         let b = below more (r .0) rest (r .1) in (
@@ -245,7 +240,7 @@ row-was (suc n) bs fs rest e = start (read-field bs) refl e (row-was n)
           b .3,
           e ∙ ap (λ (x : List ℕ). cs ++ x) (a ∙ ap (λ (x : List ℕ). comma ∷ x) (b .4)) ∙ sym (append-assoc cs (comma ∷ b .0) (b .1)),
         )
-    goes cs t f (next-row more) w e a h below = last cs (cr ∷ (lf ∷ more)) f more w (e ∙ ap (λ (x : List ℕ). cs ++ x) a) Tail.crlf h
+    goes cs t f (next-row more) w e a h below = last cs (cr ∷ (lf ∷ more)) f more w (e ∙ ap (λ (x : List ℕ). cs ++ x) a) Ends.line h
     goes cs t f neither w e a h below = absurd (no-got fs rest h)
 
     start : (r : Read Part) → read-field bs ≡ r → behind-field (read-fields n) r ≡ got fs rest → ((bs : List ℕ) (fs : List Part) (rest : List ℕ) → read-fields n bs ≡ got fs rest → Row-was bs fs rest) → Row-was bs fs rest
@@ -259,14 +254,14 @@ written-none Written.nothing l = refl
 written-none (Written.ended {bs = bs} {cs = cs} w ws) l = absurd (omega (arith, length-append bs (cr ∷ (lf ∷ cs))))
 written-none (Written.open-ended w) l = absurd (omega arith)
 
-row-of : {fs : List Part} {bs cs t rest : List ℕ} (rs : List (List Part)) (b : ℕ) → Row-written fs cs → Tail t rest → b ∷ bs ≡ cs ++ t → Written rs rest → Written (fs ∷ rs) (b ∷ bs)
-row-of {fs} {bs} {cs} rs b w Tail.none e ws =
+row-of : {fs : List Part} {bs cs t rest : List ℕ} (rs : List (List Part)) (b : ℕ) → Row-written fs cs → Ends t rest → b ∷ bs ≡ cs ++ t → Written rs rest → Written (fs ∷ rs) (b ∷ bs)
+row-of {fs} {bs} {cs} rs b w Ends.file e ws =
     rw (written-none ws refl) (Written.open-ended (subst (Row-written fs) (sym (e ∙ append-nil cs)) w))
-row-of rs b w (Tail.crlf {cs = more}) e ws = rw e (Written.ended w ws)
+row-of rs b w (Ends.line {bs = more}) e ws = rw e (Written.ended w ws)
 
-pub tail-shorter : {t rest : List ℕ} (b : ℕ) (bs cs : List ℕ) → Tail t rest → b ∷ bs ≡ cs ++ t → length rest ≤ length bs
-tail-shorter b bs cs Tail.none e = omega arith
-tail-shorter b bs cs (Tail.crlf {cs = more}) e = omega (arith, ap length e, length-append cs (cr ∷ (lf ∷ more)))
+pub tail-shorter : {t rest : List ℕ} (b : ℕ) (bs cs : List ℕ) → Ends t rest → b ∷ bs ≡ cs ++ t → length rest ≤ length bs
+tail-shorter b bs cs Ends.file e = omega arith
+tail-shorter b bs cs (Ends.line {bs = more}) e = omega (arith, ap length e, length-append cs (cr ∷ (lf ∷ more)))
 
 rows-was : (n : ℕ) (rs : List (List Part)) (bs : List ℕ) → length bs ≤ n → read-rows n bs ≡ map fields rs → Written rs bs
 unfolding read-row

@@ -26,7 +26,7 @@ use Rattle.reader.specs.declared.field_types.Place.{Place}
 use Rattle.reader.specs.declared.fault_types.Refusal.{Refusal}
 use Rattle.reader.specs.declared.fault_types.Layer.the-variants.{Reader, Job}
 use Rattle.reader.proofs.Csv.{no-got, with-got, row-unbounded}
-use Rattle.reader.proofs.Rows.{counted-got, counted-broken}
+use Rattle.reader.proofs.Rows.{counted-got, counted-broken, placed-was, placed-broken}
 
 -- a sorted field ------------------------------------------------------------------------------------------------
 
@@ -65,15 +65,9 @@ pub record Placed (place : Place) (s : Shape) (rest : List ℕ) (r : Read Part) 
   pub the-place : place-of s ≡ place
 
 pub placed-got : (place : Place) (s : Shape) (rest : List ℕ) (r : Read Part) → got s rest ≡ placed place r → Placed place s rest r
-placed-got place s rest (got f rest′) e =
-    let same : rest′ ≡ rest = cc in
-    let sorted : s ≡ sorted-as place f = cc in
-    record { part = f; was = ap (got f) same; the-number = ap number-in sorted ∙ number-sorted place f; the-place = ap place-of sorted ∙ place-sorted place f }
-placed-got place s rest broken e = absurd (no-got s rest (sym e))
-
-pub placed-broken : (place : Place) (r : Read Part) → broken ≡ placed place r → r ≡ broken
-placed-broken place (got f rest) e = absurd (no-got (sorted-as place f) rest e)
-placed-broken place broken e = refl
+placed-got place s rest r e =
+    let w = placed-was place s rest r (sym e) in
+    record { part = w .0; was = w .1; the-number = ap number-in (w .2) ∙ number-sorted place (w .0); the-place = ap place-of (w .2) ∙ place-sorted place (w .0) }
 
 -- the words of a row, one after the other -----------------------------------------------------------------------
 

@@ -7,7 +7,7 @@ use Prim.Native.Nat.{ℕ, zero, suc, _+_, _≤_, _<_}
 use native.Mathlib.Omega.{arith}
 use lib.ListN.{length, length-append}
 use Rattle.reader.specs.Csv.{cr, lf, Part, Row-written, Ended, Ends, Begins, Faulty, Read, got, broken, read-row, Row, fields, malformed, behind-row, rows}
-use Rattle.reader.proofs.Csv.{Tail, row-read, row-was, Row-was, tail-shorter, rows-unbounded, no-got}
+use Rattle.reader.proofs.Csv.{row-read, row-was, Row-was, tail-shorter, rows-unbounded, no-got}
 
 either : (n : ℕ) (bs : List ℕ) → length bs ≤ n → ((rs : List (List Part)) × (rows bs ≡ map fields rs)) ⊎ ((rs : List (List Part)) × (rows bs ≡ map fields rs ++ (malformed ∷ [])))
 unfolding read-row rows
@@ -29,37 +29,24 @@ pub read-either-way : (bs : List ℕ) → ((rs : List (List Part)) × (rows bs �
 read-either-way bs = either (length bs) bs (omega arith)
 
 -- a row that begins the bytes is read
-pub begins-got : {fs : List Part} {bs : List ℕ} → Begins fs bs → (rest : List ℕ) × (read-row bs ≡ got fs rest)
+pub begins-got : {fs : List Part} {rest bs : List ℕ} → Begins fs rest bs → read-row bs ≡ got fs rest
 unfolding read-row
-begins-got {fs} {bs} b = go (b .ends) (b .whole)
-  where
-    at : (end rest : List ℕ) → Tail end rest → bs ≡ b .front ++ end → read-row bs ≡ got fs rest
-    at end rest t e = rw e (row-read (suc (length (b .front ++ end))) (b .written) t (omega (arith, length-append (b .front) end)))
-
-    go : {end : List ℕ} → Ends end → bs ≡ b .front ++ end → (rest : List ℕ) × (read-row bs ≡ got fs rest)
-    go Ends.file e = ([], at [] [] Tail.none e)
-    go (Ends.line {bs = rest}) e = (rest, at (cr ∷ (lf ∷ rest)) rest Tail.crlf e)
+begins-got b = rw (b .whole) (row-read (suc (length (b .front ++ b .end))) (b .written) (b .ends) (omega (arith, length-append (b .front) (b .end))))
 
 pub row-parts : (bs : List ℕ) (fs : List Part) (rest : List ℕ) → read-row bs ≡ got fs rest → Row-was bs fs rest
 unfolding read-row
 row-parts bs fs rest h = row-was (suc (length bs)) bs fs rest h
 
 -- what was read of a row begins the bytes
-pub row-begins : (bs : List ℕ) (fs : List Part) (rest : List ℕ) → read-row bs ≡ got fs rest → Begins fs bs
-row-begins bs fs rest h =
-    let w = row-parts bs fs rest h in
-    record { front = w .0; end = w .1; written = w .2; ends = ends (w .3); whole = w .4 }
-  where
-    ends : {t rest : List ℕ} → Tail t rest → Ends t
-    ends Tail.none = Ends.file
-    ends Tail.crlf = Ends.line
+pub row-begins : (bs : List ℕ) (fs : List Part) (rest : List ℕ) → read-row bs ≡ got fs rest → Begins fs rest bs
+row-begins bs fs rest h = let w = row-parts bs fs rest h in record { front = w .0; end = w .1; written = w .2; ends = w .3; whole = w .4 }
 
-no-row-broken : (bs : List ℕ) → ((fs : List Part) → Begins fs bs → ⊥) → read-row bs ≡ broken
+no-row-broken : (bs : List ℕ) → ((fs : List Part) (rest : List ℕ) → Begins fs rest bs → ⊥) → read-row bs ≡ broken
 no-row-broken bs none = go (read-row bs) refl
   where
     go : (r : Read (List Part)) → read-row bs ≡ r → read-row bs ≡ broken
     go broken h = h
-    go (got fs rest) h = absurd (none fs (row-begins bs fs rest h))
+    go (got fs rest) h = absurd (none fs rest (row-begins bs fs rest h))
 
 rows-step : (bs : List ℕ) → 1 ≤ length bs → rows bs ≡ behind-row rows (read-row bs)
 rows-step [] l = absurd (omega arith)
@@ -73,7 +60,7 @@ ended-rows rest (Ended.row {fs} {bs} {rest = rs} {cs} w ws) l e =
     let long = length-append bs (cr ∷ (lf ∷ (cs ++ rest))) in
     ap rows (append-assoc bs (cr ∷ (lf ∷ cs)) rest)
     ∙ rows-step whole (omega arith)
-    ∙ ap (behind-row rows) (row-read (suc (length whole)) w Tail.crlf (omega arith))
+    ∙ ap (behind-row rows) (row-read (suc (length whole)) w Ends.line (omega arith))
     ∙ ap (λ (x : List Row). fields fs ∷ x) (ended-rows rest ws l e)
 
 pub malformed-reads : (rs : List (List Part)) (bs : List ℕ) → Faulty rs bs → rows bs ≡ map fields rs ++ (malformed ∷ [])
@@ -84,10 +71,10 @@ more-than-none : (rs : List (List Part)) → [] ≡ map fields rs ++ (malformed 
 more-than-none [] e = let z : _≡_ {A = ℕ} 0 1 = cc in omega arith
 more-than-none (fs ∷ rs) e = let z : _≡_ {A = ℕ} 0 1 = cc in omega arith
 
-faulty-more : {fs : List Part} {cs t rest : List ℕ} (rs : List (List Part)) (bs : List ℕ) → Row-written fs cs → Tail t rest → bs ≡ cs ++ t → rows rest ≡ map fields rs ++ (malformed ∷ []) → Faulty rs rest → Faulty (fs ∷ rs) bs
+faulty-more : {fs : List Part} {cs t rest : List ℕ} (rs : List (List Part)) (bs : List ℕ) → Row-written fs cs → Ends t rest → bs ≡ cs ++ t → rows rest ≡ map fields rs ++ (malformed ∷ []) → Faulty rs rest → Faulty (fs ∷ rs) bs
 unfolding rows
-faulty-more rs bs w Tail.none e h f = absurd (more-than-none rs h)
-faulty-more {cs = cs} rs bs w (Tail.crlf {cs = more}) e h f =
+faulty-more rs bs w Ends.file e h f = absurd (more-than-none rs h)
+faulty-more {cs = cs} rs bs w (Ends.line {bs = more}) e h f =
     record {
       front = cs ++ (cr ∷ (lf ∷ f .front));
       rest = f .rest;
@@ -105,7 +92,7 @@ faulty-here b bs h =
       ended = Ended.nothing;
       whole = refl;
       left = omega arith;
-      no-row = λ fs x. let g = begins-got x in no-got fs (g .0) (sym h ∙ g .1);
+      no-row = λ fs rest x. no-got fs rest (sym h ∙ begins-got x);
     }
 
 pub malformed-was : (rs : List (List Part)) (bs : List ℕ) → rows bs ≡ map fields rs ++ (malformed ∷ []) → Faulty rs bs

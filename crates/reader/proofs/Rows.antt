@@ -8,8 +8,10 @@ use lib.ListN.{length, length-append}
 use mathlib.Core.Logic.{_⊎_, inl, inr}
 use Rattle.std.specs.declared.result.Result.{Result}
 use Rattle.std.specs.declared.result.Result.the-variants.{Ok, Err}
-use Rattle.reader.specs.Csv.{Part, Read, got, broken, read-field, Next, file-ends, next-field, next-row, neither, next, with-field, go-on, behind-field, read-row, counted, Begins, Row-grammar, Row, fields, malformed, behind-row, rows, one-more, row-count, Written, Faulty, File-grammar}
-use Rattle.reader.proofs.Csv.{field-was, Follows, next-was, row-unbounded, rows-unbounded, Row-was, tail-shorter, no-got, reads-written, written-read}
+use Rattle.reader.specs.Csv.{comma, cr, lf, Part, Field-written, Ends, Separates, Begins-field, behind, separated, read-separated, Read, got, broken, read-field, Next, file-ends, next-field, next-row, neither, next, with-field, go-on, behind-field, read-row, counted, Begins, Row-grammar, Row, fields, malformed, behind-row, rows, one-more, row-count, Written, Faulty, File-grammar}
+use Rattle.reader.specs.Fields.{Shape, sorted-as, placed, Field-grammar}
+use Rattle.reader.specs.declared.field_types.Place.{Place}
+use Rattle.reader.proofs.Csv.{field-read, field-was, next-comma, Follows, next-was, row-unbounded, rows-unbounded, Row-was, tail-shorter, no-got, reads-written, written-read}
 use Rattle.reader.proofs.Malformed.{begins-got, row-parts, row-begins, read-either-way, malformed-reads, malformed-was}
 
 -- so many fields before those counted
@@ -75,9 +77,9 @@ counted-broken broken e = refl
 row-grammar : (bs : List ℕ) → Row-grammar bs (counted (read-row bs))
 row-grammar bs =
     record {
-      reads = λ fs b. let g = begins-got b in (g .0, ap counted (g .1));
+      reads = λ fs rest b. let g = begins-got b in (g, ap counted g);
       was = λ n rest e. let c = counted-got (read-row bs) n rest e in (c .0, row-begins bs (c .0) rest (c .1), c .2);
-      none = λ e fs b. let g = begins-got b in no-got (length fs) (g .0) (sym e ∙ ap counted (g .1));
+      none = λ e fs rest b. no-got (length fs) rest (sym e ∙ ap counted (begins-got b));
     }
 
 pub row-read-so : (bs : List ℕ) (r : Read ℕ) → r ≡ counted (read-row bs) → Row-grammar bs r
@@ -151,19 +153,68 @@ same-err m n e = cc
 file-grammar : (bs : List ℕ) → File-grammar bs (row-count (rows bs))
 file-grammar bs =
     record {
-      reads = λ rs w. ap row-count (reads-written rs bs w) ∙ count-of rs;
+      reads = λ rs w. let e = reads-written rs bs w in (e, ap row-count e ∙ count-of rs);
       was = λ n e. ok-was n e (read-either-way bs);
-      reads-fault = λ rs f. ap row-count (malformed-reads rs bs f) ∙ fault-of rs;
+      reads-fault = λ rs f. let e = malformed-reads rs bs f in (e, ap row-count e ∙ fault-of rs);
       fault-was = λ n e. err-was n e (read-either-way bs);
     }
   where
-    ok-was : (n : ℕ) → row-count (rows bs) ≡ Ok n → ((rs : List (List Part)) × (rows bs ≡ map fields rs)) ⊎ ((rs : List (List Part)) × (rows bs ≡ map fields rs ++ (malformed ∷ []))) → (rs : List (List Part)) × Written rs bs × (length rs ≡ n)
-    ok-was n e (inl x) = (x .0, written-read (x .0) bs (x .1), same-ok (length (x .0)) n (sym (ap row-count (x .1) ∙ count-of (x .0)) ∙ e))
+    ok-was : (n : ℕ) → row-count (rows bs) ≡ Ok n → ((rs : List (List Part)) × (rows bs ≡ map fields rs)) ⊎ ((rs : List (List Part)) × (rows bs ≡ map fields rs ++ (malformed ∷ []))) → (rs : List (List Part)) × Written rs bs × (rows bs ≡ map fields rs) × (length rs ≡ n)
+    ok-was n e (inl x) = (x .0, written-read (x .0) bs (x .1), x .1, same-ok (length (x .0)) n (sym (ap row-count (x .1) ∙ count-of (x .0)) ∙ e))
     ok-was n e (inr x) = absurd (ok-err n (suc (length (x .0))) (sym e ∙ ap row-count (x .1) ∙ fault-of (x .0)))
 
-    err-was : (n : ℕ) → row-count (rows bs) ≡ Err n → ((rs : List (List Part)) × (rows bs ≡ map fields rs)) ⊎ ((rs : List (List Part)) × (rows bs ≡ map fields rs ++ (malformed ∷ []))) → (rs : List (List Part)) × Faulty rs bs × (suc (length rs) ≡ n)
+    err-was : (n : ℕ) → row-count (rows bs) ≡ Err n → ((rs : List (List Part)) × (rows bs ≡ map fields rs)) ⊎ ((rs : List (List Part)) × (rows bs ≡ map fields rs ++ (malformed ∷ []))) → (rs : List (List Part)) × Faulty rs bs × (rows bs ≡ map fields rs ++ (malformed ∷ [])) × (suc (length rs) ≡ n)
     err-was n e (inl x) = absurd (ok-err (length (x .0)) n (sym (ap row-count (x .1) ∙ count-of (x .0)) ∙ e))
-    err-was n e (inr x) = (x .0, malformed-was (x .0) bs (x .1), same-err (suc (length (x .0))) n (sym (ap row-count (x .1) ∙ fault-of (x .0)) ∙ e))
+    err-was n e (inr x) = (x .0, malformed-was (x .0) bs (x .1), x .1, same-err (suc (length (x .0))) n (sym (ap row-count (x .1) ∙ fault-of (x .0)) ∙ e))
 
 pub file-read-so : (bs : List ℕ) (r : Result ℕ ℕ) → r ≡ row-count (rows bs) → File-grammar bs r
 file-read-so bs r e = subst (File-grammar bs) (sym e) (file-grammar bs)
+
+-- a field and what separates it ---------------------------------------------------------------------------------
+
+separated-reads : (f : Part) (rest bs : List ℕ) → Begins-field f rest bs → read-separated bs ≡ got f rest
+separated-reads f rest bs b = ap read-separated (b .whole) ∙ by (b .separates)
+  where
+    by : {end rest : List ℕ} → Separates end rest → read-separated (b .front ++ end) ≡ got f rest
+    by (Separates.row (Ends.file)) = ap separated (field-read [] (b .written) tt)
+    by (Separates.row (Ends.line {bs = more})) = ap separated (field-read (cr ∷ (lf ∷ more)) (b .written) (refl, refl))
+    by (Separates.field {bs = more}) = ap separated (field-read (comma ∷ more) (b .written) (refl, refl)) ∙ ap (behind f) (next-comma more)
+
+separated-was : (f : Part) (rest bs : List ℕ) → read-separated bs ≡ got f rest → Begins-field f rest bs
+separated-was f rest bs e = start (read-field bs) refl e
+  where
+    begins : (p : Part) (t more : List ℕ) → read-field bs ≡ got p t → Separates t more → got p more ≡ got f rest → Begins-field f rest bs
+    begins p t more h s k =
+        let w = field-was bs p t h in
+        let part : p ≡ f = cc in
+        let behind : more ≡ rest = cc in
+        record { front = w .0; end = t; written = subst (λ (x : Part). Field-written x (w .0)) part (w .1); separates = subst (Separates t) behind s; whole = w .2 }
+
+    by : (p : Part) (t : List ℕ) (x : Next) → read-field bs ≡ got p t → Follows t x → behind p x ≡ got f rest → Begins-field f rest bs
+    by p t file-ends h a k = begins p t [] h (subst (λ (y : List ℕ). Separates y []) (sym a) (Separates.row Ends.file)) k
+    by p t (next-field more) h a k = begins p t more h (subst (λ (y : List ℕ). Separates y more) (sym a) Separates.field) k
+    by p t (next-row more) h a k = begins p t more h (subst (λ (y : List ℕ). Separates y more) (sym a) (Separates.row Ends.line)) k
+    by p t neither h a k = absurd (no-got f rest k)
+
+    start : (r : Read Part) → read-field bs ≡ r → separated r ≡ got f rest → Begins-field f rest bs
+    start (got p t) h k = by p t (next t) h (next-was t) k
+    start broken h k = absurd (no-got f rest k)
+
+pub placed-was : (place : Place) (s : Shape) (rest : List ℕ) (r : Read Part) → placed place r ≡ got s rest → (f : Part) × (r ≡ got f rest) × (s ≡ sorted-as place f)
+placed-was place s rest (got f rest′) e =
+    let same : rest′ ≡ rest = cc in
+    let sorted : s ≡ sorted-as place f = cc in
+    (f, ap (got f) same, sorted)
+placed-was place s rest broken e = absurd (no-got s rest e)
+
+pub placed-broken : (place : Place) (r : Read Part) → broken ≡ placed place r → r ≡ broken
+placed-broken place (got f rest) e = absurd (no-got (sorted-as place f) rest e)
+placed-broken place broken e = refl
+
+pub field-read-so : (place : Place) (bs : List ℕ) (r : Read Shape) → r ≡ placed place (read-separated bs) → Field-grammar place bs r
+field-read-so place bs r e =
+    record {
+      reads = λ f rest b. e ∙ ap (placed place) (separated-reads f rest bs b);
+      was = λ s rest h. let w = placed-was place s rest (read-separated bs) (sym e ∙ h) in (w .0, separated-was (w .0) rest bs (w .1), w .2);
+      none = λ h f rest b. no-got (sorted-as place f) rest (sym h ∙ e ∙ ap (placed place) (separated-reads f rest bs b));
+    }

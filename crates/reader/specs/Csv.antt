@@ -2,7 +2,6 @@
 use mathlib.Core.Path.{_≡_}
 use mathlib.Core.Bool.{Bool, true, false, not, _&&_, _||_, cond}
 use mathlib.Core.List.{List, [], _∷_, _++_, map}
-use mathlib.Core.Logic.{_⊎_}
 use Prim.Native.Nat.{ℕ, zero, suc, _≤_}
 use lib.Dec.{eqb, leb}
 use lib.ListN.{length}
@@ -74,17 +73,30 @@ pub data Ended : List (List Part) → List ℕ → Type 0 where
   nothing : Ended [] []
   row : {fs : List Part} {bs : List ℕ} {rest : List (List Part)} {cs : List ℕ} → Row-written fs bs → Ended rest cs → Ended (fs ∷ rest) (bs ++ (cr ∷ (lf ∷ cs)))
 
--- what ends a row: the file's end or CRLF
-pub data Ends : List ℕ → Type 0 where
-  file : Ends []
-  line : {bs : List ℕ} → Ends (cr ∷ (lf ∷ bs))
+-- what ends a row, and what follows its end: the file ends, or a CRLF stands there
+pub data Ends : List ℕ → List ℕ → Type 0 where
+  file : Ends [] []
+  line : {bs : List ℕ} → Ends (cr ∷ (lf ∷ bs)) bs
 
--- bytes that begin with a row and its end
-pub record Begins (fs : List Part) (bs : List ℕ) : Type 0 where
+-- the bytes begin with a row of these fields and its end, and the rest follows
+pub record Begins (fs : List Part) (rest bs : List ℕ) : Type 0 where
   pub front : List ℕ
   pub end : List ℕ
   pub written : Row-written fs front
-  pub ends : Ends end
+  pub ends : Ends end rest
+  pub whole : bs ≡ front ++ end
+
+-- what separates a field from what comes next: a row's end, or a comma
+pub data Separates : List ℕ → List ℕ → Type 0 where
+  row : {end rest : List ℕ} → Ends end rest → Separates end rest
+  field : {bs : List ℕ} → Separates (comma ∷ bs) bs
+
+-- the bytes begin with this field and what separates it, and the rest follows
+pub record Begins-field (f : Part) (rest bs : List ℕ) : Type 0 where
+  pub front : List ℕ
+  pub end : List ℕ
+  pub written : Field-written f front
+  pub separates : Separates end rest
   pub whole : bs ≡ front ++ end
 
 -- behind these rows there are bytes that begin no row
@@ -94,7 +106,7 @@ pub record Faulty (rs : List (List Part)) (bs : List ℕ) : Type 0 where
   pub ended : Ended rs front
   pub whole : bs ≡ front ++ rest
   pub left : 1 ≤ length rest
-  pub no-row : (fs : List Part) → Begins fs rest → ⊥
+  pub no-row : (fs : List Part) (more : List ℕ) → Begins fs more rest → ⊥
 
 -- the reading --------------------------------------------------------------------------------------
 
@@ -222,15 +234,16 @@ read-separated bs = separated (read-field bs)
 
 -- the grammar of what was read ----------------------------------------------------------------------------
 
--- a row was read: these fields are written there, and the row ends; or no row begins there
+-- a row was read of the bytes, r being its count of fields and the rest: what is written so is read so, what is read was written so, and nothing is read where no row begins
 pub record Row-grammar (bs : List ℕ) (r : Read ℕ) : Type 0 where
-  pub reads : (fs : List Part) → Begins fs bs → (rest : List ℕ) × (r ≡ got (length fs) rest)
-  pub was : (n : ℕ) (rest : List ℕ) → r ≡ got n rest → (fs : List Part) × Begins fs bs × (length fs ≡ n)
-  pub none : r ≡ broken → (fs : List Part) → Begins fs bs → ⊥
+  pub reads : (fs : List Part) (rest : List ℕ) → Begins fs rest bs → (read-row bs ≡ got fs rest) × (r ≡ got (length fs) rest)
+  pub was : (n : ℕ) (rest : List ℕ) → r ≡ got n rest → (fs : List Part) × Begins fs rest bs × (length fs ≡ n)
+  pub none : r ≡ broken → (fs : List Part) (rest : List ℕ) → Begins fs rest bs → ⊥
 
--- a file's rows are counted: exactly so many are written there, or so many, each ended by CRLF, and then bytes that begin no row
+-- the rows of a file, r being their count or the number of the malformed one: what is written so is read so, and what is read was written so;
+-- and a malformed row is the one behind rows that were written, each ended by CRLF, where bytes are left that begin no row
 pub record File-grammar (bs : List ℕ) (r : Result ℕ ℕ) : Type 0 where
-  pub reads : (rs : List (List Part)) → Written rs bs → r ≡ Ok (length rs)
-  pub was : (n : ℕ) → r ≡ Ok n → (rs : List (List Part)) × Written rs bs × (length rs ≡ n)
-  pub reads-fault : (rs : List (List Part)) → Faulty rs bs → r ≡ Err (suc (length rs))
-  pub fault-was : (n : ℕ) → r ≡ Err n → (rs : List (List Part)) × Faulty rs bs × (suc (length rs) ≡ n)
+  pub reads : (rs : List (List Part)) → Written rs bs → (rows bs ≡ map fields rs) × (r ≡ Ok (length rs))
+  pub was : (n : ℕ) → r ≡ Ok n → (rs : List (List Part)) × Written rs bs × (rows bs ≡ map fields rs) × (length rs ≡ n)
+  pub reads-fault : (rs : List (List Part)) → Faulty rs bs → (rows bs ≡ map fields rs ++ (malformed ∷ [])) × (r ≡ Err (suc (length rs)))
+  pub fault-was : (n : ℕ) → r ≡ Err n → (rs : List (List Part)) × Faulty rs bs × (rows bs ≡ map fields rs ++ (malformed ∷ [])) × (suc (length rs) ≡ n)

@@ -1,4 +1,5 @@
 -- Fields as the program holds them: borrowed parts of the file's bytes, without the borrowing.
+use mathlib.Core.Path.{_≡_}
 use mathlib.Core.Bool.{Bool, true, false, _&&_, cond}
 use mathlib.Core.List.{List, [], _∷_}
 use Prim.Native.Nat.{ℕ}
@@ -78,3 +79,9 @@ number-in (number-shape bs place) = number bs
 number-in (word-shape bs place) = None
 number-in (letter-shape bs place) = None
 number-in (quoted-shape bs place) = number bs
+
+-- a field was read of the bytes: exactly the field that is written there, sorted, and what follows it
+pub record Field-grammar (place : Place) (bs : List ℕ) (r : csv.Read Shape) : Type 0 where
+  pub reads : (f : csv.Part) (rest : List ℕ) → csv.Begins-field f rest bs → r ≡ csv.got (sorted-as place f) rest
+  pub was : (s : Shape) (rest : List ℕ) → r ≡ csv.got s rest → (f : csv.Part) × csv.Begins-field f rest bs × (s ≡ sorted-as place f)
+  pub none : r ≡ csv.broken → (f : csv.Part) (rest : List ℕ) → csv.Begins-field f rest bs → ⊥

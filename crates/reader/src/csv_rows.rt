@@ -10,7 +10,7 @@ ghost use lib.Dec.{eqb};
 ghost use lib.ListN.{length, getD, take, drop};
 ghost use Rattle.std.specs.Options.{Cases as BySome};
 ghost use Rattle.reader.specs.Csv.{quote, text, loose, got, broken, read-bare, read-escaped, read-field, next, read-row, counted, rows, row-count, Row-grammar, File-grammar, read-separated};
-ghost use Rattle.reader.specs.Fields.{part-seen, after-seen, count-seen, field-seen, is-letter, sorted-as, placed, placed-seen};
+ghost use Rattle.reader.specs.Fields.{part-seen, after-seen, count-seen, field-seen, is-letter, sorted-as, placed, placed-seen, Field-grammar};
 
 const QUOTE: u8 = b'"';
 
@@ -150,9 +150,7 @@ fn sorted<'a>(part: Part<'a>, place: Place) -> Field<'a>
     }
 }
 
-/// The field at the beginning of the bytes, and the bytes where the next one begins, or the next row behind the last;
-/// none where the bytes begin no field, or neither a comma nor a row's end stands behind it.
-pub fn read_field<'a>(bytes: &'a [u8], place: Place) -> Option<(Field<'a>, &'a [u8])>
+fn field_and_rest<'a>(bytes: &'a [u8], place: Place) -> Option<(Field<'a>, &'a [u8])>
     ensures { λ r. ⌜ placed-seen r ≡ placed place (read-separated (now (bytes .entry))) ⌝ }
 {
     let (part, after) = read_part(bytes)?;
@@ -162,6 +160,15 @@ pub fn read_field<'a>(bytes: &'a [u8], place: Place) -> Option<(Field<'a>, &'a [
         After::FileEnd => Some((field, after)),
         After::Neither => None,
     }
+}
+
+/// The field at the beginning of the bytes, and the bytes where the next one begins, or the next row behind the last;
+/// none where the bytes begin no field, or neither a comma nor a row's end stands behind it.
+pub fn read_field<'a>(bytes: &'a [u8], place: Place) -> Option<(Field<'a>, &'a [u8])>
+    ensures reads { λ r. ⌜ placed-seen r ≡ placed place (read-separated (now (bytes .entry))) ⌝ }
+    ensures grammar { λ r. ⌜ Field-grammar place (now (bytes .entry)) (placed-seen r) ⌝ }
+{
+    field_and_rest(bytes, place)
 }
 
 #[cfg(test)]

@@ -46,9 +46,10 @@ fn number(field: Field<'_>) -> Result<i64, FieldFault>
     ensures { λ r. ⌜ r ≡ number-field (field-seen (field .entry)) ⌝ }
 {
     match field {
-        Field::Number(text, place) | Field::Quoted(text, place) => read_number(
-            text,
-        ).ok_or(FieldFault { place }),
+        Field::Number(text, place) | Field::Quoted(text, place) => {
+            let number = read_number(text);
+            number.ok_or(FieldFault { place })
+        }
         Field::Word(_, place) | Field::Letter(_, place) => Err(FieldFault { place }),
     }
 }
@@ -81,13 +82,8 @@ fn read_words<W: Words>(bytes: &[u8], row: u32) -> Result<[i64; WORDS], FactFaul
     let mut words = [0; WORDS];
     let mut rest = bytes;
     for i in 0..WORDS {
-        let Some((field, more)) = read_field(
-            rest,
-            Place {
-                row,
-                field: i as u32 + 2,
-            },
-        ) else {
+        let field = i as u32 + 2;
+        let Some((field, more)) = read_field(rest, Place { row, field }) else {
             return Err(FactFault::Malformed(row));
         };
         words[i] = word::<W>(field)?;

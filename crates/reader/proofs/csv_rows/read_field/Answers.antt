@@ -1,6 +1,9 @@
-use borrow.Author.Needs.{needs}
-use Rattle.reader.proofs.Rows.{file-end}
+use Rattle.reader.proofs.Rows.{field-read-so}
 use Rattle.reader.proofs.csv_rows.read_field.Needs as need
 
-pub returns-in-FileEnd : need.returns-in-FileEnd
-returns-in-FileEnd c = let end = file-end (c .in-Continue-part .after .now) (c .in-FileEnd .ensures tt) in search needs
+pub returns : need.returns
+returns c =
+    record {
+      reads = c .field-and-rest .ensures;
+      grammar = field-read-so (c .args .place) (c .args .bytes .now) _ (c .field-and-rest .ensures);
+    }

@@ -20,12 +20,12 @@ loop-i-holds g c = (refl, words-none (g .W·Words .system .valid) (c .args .row)
 
 pub returns-in-rest : need.returns-in-rest
 returns-in-rest g c =
-    words-broken (g .W·Words .system .valid) (c .args .row) _ (take (c .loop-i .i) (c .loop-i .words)) (c .loop-i .i) (omega arith) (c .loop-i .rest .now) (c .loop-i .inv .1) _ (c .in-rest .ensures tt)
+    words-broken (g .W·Words .system .valid) (c .args .row) _ (take (c .loop-i .i) (c .loop-i .words)) (c .loop-i .i) (omega arith) (c .loop-i .rest .now) (c .loop-i .inv .1) _ (c .in-rest .ensures tt .reads)
 
 pub returns-in-Break-words : need.returns-in-Break-words
 returns-in-Break-words g c =
     let p = err-from-errBy (c .from-residual .result) (c .from-residual .ensures .1) in
-    rw (p .1, p .2) (words-refused (g .W·Words .system .valid) (c .args .row) _ (take (c .loop-i .i) (c .loop-i .words)) (c .loop-i .i) (omega arith) (c .loop-i .rest .now) (c .loop-i .inv .1) (field-seen (c .in-Some .field)) (c .in-Some .more .now) _ (c .in-Some .ensures tt) (c .in-Break-words .ensures tt))
+    rw (p .1, p .2) (words-refused (g .W·Words .system .valid) (c .args .row) _ (take (c .loop-i .i) (c .loop-i .words)) (c .loop-i .i) (omega arith) (c .loop-i .rest .now) (c .loop-i .inv .1) (field-seen (c .in-Some .field)) (c .in-Some .more .now) _ (c .in-Some .ensures tt .reads) (c .in-Break-words .ensures tt))
 
 pub loop-i-again : need.loop-i-again
 loop-i-again g c =
@@ -33,7 +33,7 @@ loop-i-again g c =
     let same : w ≡ c .in-Continue-words .field-0 = search needs in
     let here : c .loop-i .i < length (c .loop-i .words) = omega arith in (
       length-set (c .loop-i .words) (c .loop-i .i) w ∙ c .loop-i .inv .0,
-      rw (take-more-set (c .loop-i .words) (c .loop-i .i) w here) (words-more (g .W·Words .system .valid) (c .args .row) _ (take (c .loop-i .i) (c .loop-i .words)) (c .loop-i .i) (omega arith) (c .loop-i .rest .now) (c .loop-i .inv .1) (field-seen (c .in-Some .field)) (c .in-Some .more .now) w (c .in-Some .ensures tt) (ap (λ (x : ℤ). Ok x) same ∙ c .in-Continue-words .ensures tt)),
+      rw (take-more-set (c .loop-i .words) (c .loop-i .i) w here) (words-more (g .W·Words .system .valid) (c .args .row) _ (take (c .loop-i .i) (c .loop-i .words)) (c .loop-i .i) (omega arith) (c .loop-i .rest .now) (c .loop-i .inv .1) (field-seen (c .in-Some .field)) (c .in-Some .more .now) w (c .in-Some .ensures tt .reads) (ap (λ (x : ℤ). Ok x) same ∙ c .in-Continue-words .ensures tt)),
     )
 
 pub returns : need.returns
