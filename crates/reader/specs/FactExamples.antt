@@ -28,8 +28,11 @@ fact k a b c = record { kind = k; words = pos a ∷ (pos b ∷ (pos c ∷ [])) }
 abbrev pub looped-line : List Fact
 looped-line = fact 2 10 20 500 ∷ (fact 2 20 10 500 ∷ (fact 1 10 0 0 ∷ []))
 
+abbrev pub looped-line-file : List ℕ
+looped-line-file = lines ("2,10,20,500" ∷ ("2,20,10,500" ∷ ("1,10,0,0" ∷ [])))
+
 pub record Files-of-facts : Type 0 where
-  pub looped : facts (lines ("2,10,20,500" ∷ ("2,20,10,500" ∷ ("1,10,0,0" ∷ [])))) ≡ Ok looped-line
+  pub looped : facts looped-line-file ≡ Ok looped-line
   -- the last CRLF may be missing, and an empty file has no rows
   pub open-ended : facts (codes "1,10,0,0") ≡ Ok (fact 1 10 0 0 ∷ [])
   pub none : facts [] ≡ Ok []
