@@ -9,3 +9,4 @@ pub mod FactRows
 pub mod Named
 pub mod FactLoads
 pub mod FactExamples
+pub mod Terms

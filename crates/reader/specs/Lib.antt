@@ -5,3 +5,4 @@ pub mod Refusals
 pub mod Facts
 pub mod FactScan
 pub mod FactExamples
+pub mod Terms

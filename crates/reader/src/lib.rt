@@ -1,11 +1,13 @@
-//! The files of a job, from their bytes: rows by RFC 4180, fields, numbers, and the loader of facts.
+//! The files of a job, from their bytes: rows by RFC 4180, fields, numbers, terms, and the loader of facts.
 mod csv_rows;
 mod fact_examples;
 mod fact_rows;
 mod fault_types;
 mod faults;
 mod field_types;
+mod mark_type;
 mod number_text;
+mod term_text;
 
 pub use csv_rows::read_field;
 pub use csv_rows::read_row;
@@ -22,4 +24,8 @@ pub use faults::FactFaultFromField;
 pub use faults::RefusalFromFact;
 pub use field_types::Field;
 pub use field_types::Place;
+pub use mark_type::Mark;
 pub use number_text::read_number;
+pub use term_text::read_argument;
+pub use term_text::read_operand;
+pub use term_text::read_term;
