@@ -3,7 +3,7 @@ use crate::table_type::Table;
 use std::marker::PhantomData;
 ghost use Prim.Native.Nat.{_<_};
 
-/// A set between two rules: a rule may be begun, or the set closed.
+/// A set between two rules: a rule may be begun.
 #[derive(Drop)]
 pub struct OpenSet<W> {
     pub(crate) system: PhantomData<W>,
