@@ -18,7 +18,8 @@ use Rattle.stores.specs.Store.{sameℤ}
 use Rattle.machine.specs.Fitting.{Setting, fits_word, fits_words, fits, fits_each, letter_word, letter_in, or_else, setting_of}
 use Rattle.engine.specs.Letters.{Letters, unbound, setting_in, bind_fact}
 use Rattle.engine.specs.Searching.{Agrees, Binds, no_head, no_fact, head_at, first_word, known_word, of_kind_and, is_candidate}
-use Rattle.engine.proofs.SearchLetters.{same_word, word_same, letter_below, bound_fact}
+use Rattle.machine.proofs.Settings.{same_word}
+use Rattle.engine.proofs.SearchLetters.{word_same, letter_below, bound_fact}
 
 -- facts at heads --------------------------------------------------------------------------------------------------------
 

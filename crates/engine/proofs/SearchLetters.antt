@@ -1,6 +1,6 @@
 -- Letters bound to the words of facts, against the settings that give them those words.
-use Rattle.std.proofs.Common.{◌≡◌, ℕ, ◌<◌, Bool, true, false, cond, ◌&&◌, eqb, ltb, List, [], ◌∷◌, length, get_or, set, ℤ, pos, negsuc, Some, None, Option, sym, refl, ap, subst, ◌∙◌, arith, length-set, get_or-set_same, get_or-set_other}
-use Rattle.std.proofs.lemmas.Bool.{and_parts, and_from, and_left, and_right, eqb-true, eq-eqb, eqb-false, ltb-true}
+use Rattle.std.proofs.Common.{◌≡◌, ℕ, ◌<◌, Bool, true, false, cond, ◌&&◌, eqb, ltb, List, [], ◌∷◌, length, get_or, set, ℤ, Some, None, Option, sym, refl, ap, subst, ◌∙◌, arith, length-set, get_or-set_same, get_or-set_other}
+use Rattle.std.proofs.lemmas.Bool.{and_parts, and_from, and_left, and_right, eqb-true, eqb-false, ltb-true}
 use Rattle.facts.specs.declared.fact_types.Fact.{Fact}
 use Rattle.rules.specs.declared.rule_types.Argument.{Argument}
 use Rattle.rules.specs.declared.rule_types.Argument.TheVariants.{Letter, Constant, Any}
@@ -8,23 +8,13 @@ use Rattle.rules.specs.declared.rule_types.Pattern.{Pattern}
 use Rattle.rules.specs.Rules.{all}
 use Rattle.stores.specs.Store.{sameℤ}
 use Rattle.machine.specs.Fitting.{Setting, fits_word, fits_words, fits, letter_word, or_else}
+use Rattle.machine.proofs.Settings.{same_word, same_word_refl}
 use Rattle.engine.specs.Letters.{Letters, bind_letter, bind_word, bind_words, bind_fact}
 use Rattle.std.specs.Option.{option_and_then}
 use Rattle.engine.specs.Searching.{Agrees}
 
--- equal words
-pub same_word : (a b : ℤ) → sameℤ a b ≡ true → a ≡ b
-same_word (pos a) (pos b) e = ap pos (eqb-true a b e)
-same_word (pos a) (negsuc b) e = cc
-same_word (negsuc a) (pos b) e = cc
-same_word (negsuc a) (negsuc b) e = ap negsuc (eqb-true a b e)
-
-pub same_word-refl : (a : ℤ) → sameℤ a a ≡ true
-same_word-refl (pos a) = eq-eqb a a refl
-same_word-refl (negsuc a) = eq-eqb a a refl
-
 pub word_same : (a b : ℤ) → a ≡ b → sameℤ a b ≡ true
-word_same a b e = subst (λ (x : ℤ). sameℤ a x ≡ true) e (same_word-refl a)
+word_same a b e = subst (λ (x : ℤ). sameℤ a x ≡ true) e (same_word_refl a)
 
 -- letters bound by words at arguments: which words they have then, and which settings give them these
 pub record Bound (l : Letters) (as' : List Argument) (ws : List ℤ) (m : Letters) : Type 0 where

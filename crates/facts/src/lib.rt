@@ -1,4 +1,6 @@
 //! Facts, and the word systems that give the words of a fact their meaning.
+#![tactic(auto)]
+
 mod fact_types;
 mod length_words;
 mod tag_words;

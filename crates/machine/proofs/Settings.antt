@@ -33,9 +33,9 @@ same_word (pos a) (negsuc b) e = absurd (false≢true e)
 same_word (negsuc a) (pos b) e = absurd (false≢true e)
 same_word (negsuc a) (negsuc b) e = ap negsuc (eqb-true a b e)
 
-pub same-word-refl : (a : ℤ) → sameℤ a a ≡ true
-same-word-refl (pos a) = eq-eqb a a refl
-same-word-refl (negsuc a) = eq-eqb a a refl
+pub same_word_refl : (a : ℤ) → sameℤ a a ≡ true
+same_word_refl (pos a) = eq-eqb a a refl
+same_word_refl (negsuc a) = eq-eqb a a refl
 
 abbrev same-words : List ℤ → List ℤ → Bool
 same-words [] [] = true
@@ -51,7 +51,7 @@ same-words-eq (a ∷ as') (b ∷ bs) e = let h = and_parts (sameℤ a b) (same-w
 
 same_words_refl : (as' : List ℤ) → same-words as' as' ≡ true
 same_words_refl [] = refl
-same_words_refl (a ∷ as') = and_from (sameℤ a a) (same-words as' as') (same-word-refl a) (same_words_refl as')
+same_words_refl (a ∷ as') = and_from (sameℤ a a) (same-words as' as') (same_word_refl a) (same_words_refl as')
 
 abbrev pub same-fact : Fact → Fact → Bool
 same-fact f g = eqb f.kind g.kind && same-words f.words g.words

@@ -11,7 +11,11 @@ mod rule_stages;
 mod spelling;
 mod stage_type;
 
-pub use facts_file::{MOST_FACTS, load_facts, load_looped_line};
-pub use rows::{Layer, MOST_BYTES, Refusal};
+pub use facts_file::{FactFault, MOST_FACTS, load_facts, load_looped_line};
+pub use rows::{
+    Field, FieldFault, Layer, MOST_BYTES, Place, Refusal, read_field, read_number, read_row,
+    row_count,
+};
 pub use rule_examples::load_looped_rules;
 pub use rule_rows::load_rules;
+pub use terms::{Mark, read_argument, read_operand, read_term};

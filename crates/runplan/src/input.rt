@@ -2,6 +2,7 @@
 ghost use Rattle.std.specs.Prelude.{◌≤◌, length, IfSome};
 
 use reader::MOST_BYTES;
+use std::env::FillError;
 use std::fs;
 use std::fs::Files;
 use std::io::Read;
@@ -22,6 +23,18 @@ pub fn argument<'a, R: Env>(rt: &R, index: usize, buffer: &'a mut [u8; PATH]) ->
         },
         Err(_) => None,
     }
+}
+
+/// How many arguments there are, readable or not; no more than `most` are counted.
+pub fn argument_count<R: Env>(rt: &R, most: usize) -> usize
+    ensures { result ≤ most }
+{
+    for index in 0..most {
+        if let Err(FillError::NotPresent) = rt.arg(index + 1, &mut [0; 1]) {
+            return index;
+        }
+    }
+    most
 }
 
 // How many bytes of the file are now in the buffer; none where the file cannot be read.

@@ -1,12 +1,12 @@
 //! `runplan RULES FACTS`: reads both files, applies the rules to the facts, and prints each application, the facts left and the end.
-//! `runplan --check RULES FACTS`: reads both files and runs nothing.
+//! `runplan --check RULES FACTS`: reads both files and runs nothing. `runplan --check FACTS` reads a file of facts alone.
 #![tactic(auto)]
 
 mod input;
 mod telling;
 
 use facts::{Fact, Lengths, WORDS};
-use input::{BUFFER, PATH, argument, read_file};
+use input::{BUFFER, PATH, argument, argument_count, read_file};
 use machine::End;
 use printing::{CAPACITY, Checked, check_facts, check_rules, print_job};
 use reader::MOST_FACTS;
@@ -16,7 +16,7 @@ use std::io;
 use std::process::ExitCode;
 use std::rt::Env;
 use stores::{Row, Rows, Store};
-use telling::{explain_end, explain_refusal};
+use telling::{Source, explain_count, explain_end, explain_refusal};
 
 /// Why the program ends with status 1.
 #[derive(Drop)]
@@ -36,6 +36,7 @@ impl From<io::Error> for Failed {
 // What was read; where the file is refused, its row is printed, and a sentence says why.
 fn accepted<T: Drop, R: Print + Eprint>(
     rt: &R,
+    source: Source,
     path: &str,
     found: bool,
     checked: Checked<T>,
@@ -44,7 +45,7 @@ fn accepted<T: Drop, R: Print + Eprint>(
         Checked::Accepted(value) => Ok(value),
         Checked::Refused(refusal, line) => {
             rt.write_all(line.text())?;
-            explain_refusal(rt, path, found, &refusal)?;
+            explain_refusal(rt, source, path, found, &refusal)?;
             Err(Failed::Refused)
         }
     }
@@ -54,7 +55,7 @@ fn read_rules<R: Files + Print + Eprint>(rt: &R, path: &str) -> Result<ClosedSet
     let mut buffer = [0; BUFFER];
     let file = read_file(rt, path, &mut buffer);
     let found = file.is_some();
-    accepted(rt, path, found, check_rules(file))
+    accepted(rt, Source::Rules, path, found, check_rules(file))
 }
 
 fn read_facts<R: Files + Print + Eprint>(
@@ -65,7 +66,7 @@ fn read_facts<R: Files + Print + Eprint>(
     let mut buffer = [0; BUFFER];
     let file = read_file(rt, path, &mut buffer);
     let found = file.is_some();
-    accepted(rt, path, found, check_facts(file, table))
+    accepted(rt, Source::Facts, path, found, check_facts(file, table))
 }
 
 fn no_facts() -> [Fact; MOST_FACTS] {
@@ -83,6 +84,13 @@ fn check<R: Files + Print + Eprint>(rt: &R, rules: &str, facts: &str) -> Result<
     let rule_count = set.rule_count();
     let heads = set.head_count();
     eprintln!(rt; "{rules}: {rule_count} rules with {heads} heads; {facts}: {fact_count} facts")?;
+    Ok(())
+}
+
+fn check_survey<R: Files + Print + Eprint>(rt: &R, facts: &str) -> Result<(), Failed> {
+    let mut table = no_facts();
+    let count = read_facts(rt, facts, &mut table)?;
+    explain_count(rt, facts, count)?;
     Ok(())
 }
 
@@ -117,17 +125,18 @@ fn run<R: Env + Files + Print + Eprint>(rt: &R) -> Result<(), Failed> {
     let mut first = [0; PATH];
     let mut second = [0; PATH];
     let mut third = [0; PATH];
-    let mut fourth = [0; PATH];
     let one = argument(rt, 1, &mut first);
     let two = argument(rt, 2, &mut second);
     let three = argument(rt, 3, &mut third);
-    let four = argument(rt, 4, &mut fourth);
-    match (one, two, three, four) {
-        (None, None, None, None) => plan(rt, "rules.csv", "facts.csv"),
-        (Some("--check"), Some(rules), Some(facts), None) => check(rt, rules, facts),
-        (Some(rules), Some(facts), None, None) => plan(rt, rules, facts),
+    match (argument_count(rt, 4), one, two, three) {
+        (0, ..) => plan(rt, "rules.csv", "facts.csv"),
+        (2, Some("--check"), Some(facts), _) => check_survey(rt, facts),
+        (3, Some("--check"), Some(rules), Some(facts)) => check(rt, rules, facts),
+        (2, Some(rules), Some(facts), _) => plan(rt, rules, facts),
         _ => {
-            eprintln!(rt; "usage: runplan [--check] RULES FACTS")?;
+            eprintln!(rt;
+                "usage: runplan RULES FACTS, runplan --check RULES FACTS or runplan --check FACTS"
+            )?;
             Err(Failed::Usage)
         }
     }

@@ -3,8 +3,26 @@ use machine::End;
 use reader::Refusal;
 use std::io;
 
-// What a refusal says of the row or the field that it names.
-fn meaning(number: u8) -> &'static str {
+/// Which of the two files a sentence is about.
+#[derive(Clone, Copy)]
+pub enum Source {
+    Rules,
+    Facts,
+}
+
+// What a refusal says of the row or the field of a file of facts that it names.
+fn meaning_in_facts(number: u8) -> &'static str {
+    match number {
+        1 => "the kind is not from 0 to 63",
+        2 => "the word is not from -2147483648 to 2147483647",
+        8 => "the field is not a number",
+        11 => "a file has at most 512 facts",
+        _ => "the row is not four fields by RFC 4180 with CRLF",
+    }
+}
+
+// What a refusal says of the row or the field of a file of rules that it names.
+fn meaning_in_rules(number: u8) -> &'static str {
     match number {
         1 => "the kind is not from 0 to 63",
         2 => "the word is not from -2147483648 to 2147483647",
@@ -12,16 +30,23 @@ fn meaning(number: u8) -> &'static str {
         4 => "one part or one rule is too many",
         5 => "the rule has no drop head",
         6 => "the rule has no all head of this number",
-        9 => "the row is out of order",
-        11 => "a file has at most 512 facts",
         8 => "the field cannot be read, or is filled and must be empty",
+        9 => "the row is out of order",
         _ => "the row is no row by RFC 4180 with CRLF, or has another number of fields",
+    }
+}
+
+fn meaning(source: Source, number: u8) -> &'static str {
+    match source {
+        Source::Rules => meaning_in_rules(number),
+        Source::Facts => meaning_in_facts(number),
     }
 }
 
 /// Where a file's fault is, and what it is.
 pub fn explain_refusal<R: Eprint>(
     rt: &R,
+    source: Source,
     path: &str,
     found: bool,
     refusal: &Refusal,
@@ -38,7 +63,7 @@ pub fn explain_refusal<R: Eprint>(
     if row == 0 {
         return eprintln!(rt; "{path}: there is no file that can be read (refusal {number})");
     }
-    let what = meaning(number);
+    let what = meaning(source, number);
     if field == 0 {
         return eprintln!(rt; "{path}, row {row}: {what} (refusal {number})");
     }
@@ -54,6 +79,14 @@ fn shortage(number: u8) -> &'static str {
         13 => "a term of a rule's body has no value",
         _ => "the list of labels is too short",
     }
+}
+
+/// How many facts were read.
+pub fn explain_count<R: Eprint>(rt: &R, path: &str, count: usize) -> io::Result<()> {
+    if count == 1 {
+        return eprintln!(rt; "{path}: 1 fact read");
+    }
+    eprintln!(rt; "{path}: {count} facts read")
 }
 
 /// Why a run did not end quiet; nothing where it did.
