@@ -1,9 +1,8 @@
 -- What a rule of a set that stands gives: kinds that a store takes, and no more facts than can be counted.
-use Rattle.std.proofs.Common.{◌≡◌, ℕ, suc, ◌-◌, ◌*◌, ◌<◌, ◌≤◌, Bool, true, false, List, [], ◌∷◌, ◌++◌, map, flat_map, length, get_or, ℤ, pos, Some, None, Option, sym, refl, ap, subst, arith, length-append}
+use Rattle.std.proofs.Common.{◌≡◌, ℕ, ◌-◌, ◌*◌, ◌<◌, ◌≤◌, Bool, true, false, List, [], ◌∷◌, ◌++◌, map, flat_map, length, get_or, ℤ, pos, Some, None, Option, sym, subst, arith, length-append}
 use Rattle.std.specs.Prelude.{option_map}
-use Rattle.std.proofs.lemmas.Bool.{and_from, le-leb}
+use Rattle.std.proofs.lemmas.Bool.{le-leb}
 use Rattle.std.proofs.lemmas.List.{length-map}
-use mathlib.Core.List.{Memᴰ}
 use Rattle.facts.specs.System.{System}
 use Rattle.facts.specs.declared.fact_types.Fact.{Fact}
 use Rattle.rules.specs.declared.rule_types.GiveAll.{GiveAll}
@@ -15,34 +14,9 @@ use Rattle.stores.specs.Store.{last_kind}
 use Rattle.machine.specs.Fitting.{Setting, all_values, given, term_value, body}
 use Rattle.machine.proofs.Lists.{Each, Each-append, Each-map}
 use Rattle.machine.proofs.Rooms.{some-none, some-some}
+use Rattle.machine.proofs.Valids.{each-from, each_flat, all-each, values_some}
 use Rattle.machine.proofs.Stands.{RuleStands, behind-number, kind-accepted, each-accepted}
 use Rattle.engine.specs.Bringing.{has_kind}
-
-each-from : {X : Type 0} (P : X → Type 0) (xs : List X) → ((x : X) → Memᴰ x xs → P x) → Each P xs
-each-from P [] f = tt
-each-from P (x ∷ xs) f = (f x (Memᴰ.head refl), each-from P xs (λ y m. f y (Memᴰ.tail m)))
-
-each_flat : {X Y : Type 0} (P : Y → Type 0) (f : X → List Y) (xs : List X) → Each (λ x. Each P (f x)) xs → Each P (flat_map f xs)
-each_flat P f [] h = tt
-each_flat P f (x ∷ xs) h = Each-append P (f x) (flat_map f xs) h.0 (each_flat P f xs h.1)
-
-all-each : {X : Type 0} (p : X → Bool) (xs : List X) → Each (λ x. p x ≡ true) xs → all p xs ≡ true
-all-each p [] h = refl
-all-each p (x ∷ xs) h = and_from (p x) (all p xs) h.0 (all-each p xs h.1)
-
--- all values of a list: each is one of them, and they are as many
-values_some : {X : Type 0} (P : X → Type 0) (os : List (Option X)) → Each (λ o. (x : X) → o ≡ Some x → P x) os → (xs : List X) → all_values os ≡ Some xs →
-    Each P xs × (length xs ≡ length os)
-values_some P [] h xs e = subst (λ l. Each P l × (length l ≡ 0)) (some-some [] xs e) (tt, refl)
-values_some P (None ∷ os) h xs e = absurd (some-none xs (sym e))
-values_some {X} P (Some x ∷ os) h xs e = go (all_values os) (λ ys q. values_some P os h.1 ys q) refl e
-  where
-    go : (o : Option (List X)) → ((ys : List X) → all_values os ≡ Some ys → Each P ys × (length ys ≡ length os)) → all_values os ≡ o →
-        option_map (λ l. x ∷ l) o ≡ Some xs → Each P xs × (length xs ≡ suc (length os))
-    go None more q k = absurd (some-none xs (sym k))
-    go (Some ys) more q k =
-        let below = more ys q in
-        subst (λ l. Each P l × (length l ≡ suc (length os))) (some-some (x ∷ ys) xs k) ((h.0 x refl, below.0), ap suc below.1)
 
 module _ (s : System) (σ : Setting) (r : Rule) where
   given-kind : (ts : List ℤ) (t : Template) → t.kind < 64 → (f : Fact) → given s σ ts t ≡ Some f → has_kind f ≡ true

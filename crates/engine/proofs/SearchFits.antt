@@ -19,7 +19,7 @@ use Rattle.machine.specs.Fitting.{Setting, fits_word, fits_words, fits, fits_eac
 use Rattle.engine.specs.Letters.{Letters, unbound, setting_in, bind_fact}
 use Rattle.engine.specs.Searching.{Agrees, Binds, no_head, no_fact, head_at, first_word, known_word, of_kind_and, is_candidate}
 use Rattle.machine.proofs.Settings.{same_word}
-use Rattle.engine.proofs.SearchLetters.{word_same, letter_below, bound_fact}
+use Rattle.engine.proofs.SearchLetters.{or-none, or-or, word_same, letter_below, bound_fact}
 
 -- facts at heads --------------------------------------------------------------------------------------------------------
 
@@ -95,14 +95,6 @@ letter_in-none v [] fs i e l k = absurd (omega arith)
 letter_in-none v (h ∷ hs) [] i e l k = absurd (omega arith)
 letter_in-none v (h ∷ hs) (f ∷ fs) zero e l k = (or-none-parts (letter_word v h.args f.words) (letter_in v hs fs) e).0
 letter_in-none v (h ∷ hs) (f ∷ fs) (suc i) e l k = letter_in-none v hs fs i (or-none-parts (letter_word v h.args f.words) (letter_in v hs fs) e).1 (omega arith) (omega arith)
-
-or-none : (o : Option ℤ) → or_else o None ≡ o
-or-none None = refl
-or-none (Some w) = refl
-
-or-or : (a b c : Option ℤ) → or_else (or_else a b) c ≡ or_else a (or_else b c)
-or-or None b c = refl
-or-or (Some w) b c = refl
 
 or_twice : (a b : Option ℤ) → or_else (or_else a b) a ≡ or_else a b
 or_twice None b = or-none b

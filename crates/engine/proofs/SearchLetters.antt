@@ -24,11 +24,11 @@ pub record Bound (l : Letters) (as' : List Argument) (ws : List ℤ) (m : Letter
   pub fit : (σ : Setting) → Agrees σ m → fits_words σ as' ws ≡ true
   pub agree : (σ : Setting) → Agrees σ l → fits_words σ as' ws ≡ true → Agrees σ m
 
-or-none : (o : Option ℤ) → or_else o None ≡ o
+pub or-none : (o : Option ℤ) → or_else o None ≡ o
 or-none None = refl
 or-none (Some w) = refl
 
-or-or : (a b c : Option ℤ) → or_else (or_else a b) c ≡ or_else a (or_else b c)
+pub or-or : (a b c : Option ℤ) → or_else (or_else a b) c ≡ or_else a (or_else b c)
 or-or None b c = refl
 or-or (Some w) b c = refl
 

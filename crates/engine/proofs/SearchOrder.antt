@@ -8,6 +8,7 @@ use Rattle.stores.specs.Lists.{all, rises}
 use Rattle.stores.specs.Store.{Pair, label, fact, labels, read, next_that}
 use Rattle.stores.specs.Piles.{Pile, Owed, sound_pair}
 use Rattle.machine.specs.Lists.{choices}
+use Rattle.machine.proofs.Lists.{Each}
 use Rattle.engine.specs.Searching.{no_fact, fact_at, or_next, first_of, begun, after}
 
 -- pairs of a store ------------------------------------------------------------------------------------------------------
@@ -20,15 +21,6 @@ Rising a (p ∷ ps) = (a < label p) × Rising (label p) ps
 -- a pair stands in a store under its label
 abbrev pub Stands : List Pair → Pair → Type 0
 Stands ps x = read (label x) ps ≡ Some (fact x)
-
--- what holds of each element
-abbrev pub Each : {X : Type 0} → (X → Type 0) → List X → Type 0
-Each P [] = Unit {0}
-Each P (x ∷ xs) = P x × Each P xs
-
-pub Each-append : {X : Type 0} (P : X → Type 0) (xs ys : List X) → Each P xs → Each P ys → Each P (xs ++ ys)
-Each-append P [] ys h k = k
-Each-append P (x ∷ xs) ys h k = (h.0, Each-append P xs ys h.1 k)
 
 Each-both : {X : Type 0} (P Q R : X → Type 0) → ((x : X) → P x → Q x → R x) → (xs : List X) → Each P xs → Each Q xs → Each R xs
 Each-both P Q R f [] h k = tt

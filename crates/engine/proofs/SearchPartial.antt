@@ -16,7 +16,8 @@ use Rattle.machine.specs.Fitting.{fits, fits_each, holds, ready_under, ready, se
 use Rattle.engine.specs.Letters.{Letters, setting_in}
 use Rattle.machine.specs.Machine.{stands_at, suits}
 use Rattle.engine.specs.Searching.{Agrees, Binds, IsPartial, no_head, no_fact, head_at, is_candidate, fact_at, pairs_at, or_next, first_of, begun, found_from, found_above}
-use Rattle.engine.proofs.SearchOrder.{Rising, Stands, Each, Each-append, Next, rising-stands, fact-at, begun-none, first_of-only, above-none, above-some, after-rising}
+use Rattle.machine.proofs.Lists.{Each, Each-append}
+use Rattle.engine.proofs.SearchOrder.{Rising, Stands, Next, rising-stands, fact-at, begun-none, first_of-only, above-none, above-some, after-rising}
 use Rattle.engine.proofs.SearchFits.{fits-length, fits-at, fits-front, binds_again, setting-same, candidate}
 
 -- labels ----------------------------------------------------------------------------------------------------------------

@@ -15,7 +15,8 @@ use Rattle.engine.specs.Letters.{Letters, unbound, bind_fact}
 use Rattle.machine.specs.Machine.{suits, chosen}
 use Rattle.engine.specs.Searching.{Agrees, Binds, IsPartial, no_head, no_fact, head_at, is_candidate, fact_at, pairs_at, or_next, begun, found_from, found_above, extended, candidates_stand}
 use Rattle.engine.proofs.SearchLetters.{unbound_fact, letter_below}
-use Rattle.engine.proofs.SearchOrder.{Rising, Stands, Each, rising-stands, fact-at, begun-none, begun-all, next-found}
+use Rattle.machine.proofs.Lists.{Each}
+use Rattle.engine.proofs.SearchOrder.{Rising, Stands, rising-stands, fact-at, begun-none, begun-all, next-found}
 use Rattle.engine.proofs.SearchFits.{fits-at, binds_first, binds_more, candidate, head-below, unbound-agrees}
 use Rattle.engine.proofs.SearchPartial.{suited, active-fits, has-push, distinct-push, all-push, fact-stands, doomed, here-fits, here-agrees, here-new, here-other, more-binds, more-count, front-count, next, next-value}
 

@@ -39,11 +39,11 @@ use Rattle.machine.proofs.Rooms.{some-none, some-some}
 
 -- lists -----------------------------------------------------------------------------------------------
 
-each-from : {X : Type 0} (P : X → Type 0) (xs : List X) → ((x : X) → Memᴰ x xs → P x) → Each P xs
+pub each-from : {X : Type 0} (P : X → Type 0) (xs : List X) → ((x : X) → Memᴰ x xs → P x) → Each P xs
 each-from P [] f = tt
 each-from P (x ∷ xs) f = (f x (Memᴰ.head refl), each-from P xs (λ y m. f y (Memᴰ.tail m)))
 
-each_flat : {X Y : Type 0} (P : Y → Type 0) (f : X → List Y) (xs : List X) → Each (λ x. Each P (f x)) xs → Each P (flat_map f xs)
+pub each_flat : {X Y : Type 0} (P : Y → Type 0) (f : X → List Y) (xs : List X) → Each (λ x. Each P (f x)) xs → Each P (flat_map f xs)
 each_flat P f [] h = tt
 each_flat P f (x ∷ xs) h = Each-append P (f x) (flat_map f xs) h.0 (each_flat P f xs h.1)
 
@@ -51,7 +51,7 @@ all-member : {X : Type 0} (p : X → Bool) {x : X} {xs : List X} → Memᴰ x xs
 all-member p (Memᴰ.head {x = y} {xs = ys} e) h = ap p e ∙ (and_parts (p y) (all p ys) h).0
 all-member p (Memᴰ.tail {x = y} {xs = ys} m) h = all-member p m (and_parts (p y) (all p ys) h).1
 
-all-each : {X : Type 0} (p : X → Bool) (xs : List X) → Each (λ x. p x ≡ true) xs → all p xs ≡ true
+pub all-each : {X : Type 0} (p : X → Bool) (xs : List X) → Each (λ x. p x ≡ true) xs → all p xs ≡ true
 all-each p [] h = refl
 all-each p (x ∷ xs) h = and_from (p x) (all p xs) h.0 (all-each p xs h.1)
 
@@ -66,7 +66,7 @@ index_together (t ∷ ts) zero m = Memᴰ.append_left (together ts) m
 index_together (t ∷ ts) (suc i) m = Memᴰ.append_right t (index_together ts i m)
 
 -- all values of a list, each of which is one
-values_some : {X : Type 0} (P : X → Type 0) (os : List (Option X)) → Each (λ o. (x : X) → o ≡ Some x → P x) os → (xs : List X) → all_values os ≡ Some xs →
+pub values_some : {X : Type 0} (P : X → Type 0) (os : List (Option X)) → Each (λ o. (x : X) → o ≡ Some x → P x) os → (xs : List X) → all_values os ≡ Some xs →
     Each P xs × (length xs ≡ length os)
 values_some P [] h xs e = subst (λ l. Each P l × (length l ≡ 0)) (some-some [] xs e) (tt, refl)
 values_some P (None ∷ os) h xs e = absurd (some-none xs (sym e))
