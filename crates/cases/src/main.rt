@@ -3,14 +3,16 @@
 
 mod jobs;
 
-use facts::{Fact, Lengths, WORDS};
+use facts::{Fact, Lengths};
 use jobs::run_job;
-use reader::{Layer, MOST_FACTS, Refusal, load_facts};
+use printing::NO_FACTS;
+use reader::{Layer, Refusal, load_facts};
 use std::{fs, io};
 
 /// Files of at most so many facts are printed with their facts.
 const FEW: usize = 4;
 
+// No Display, since the type is another crate's and the words are of this print alone.
 fn layer_name(layer: Layer) -> &'static str {
     match layer {
         Layer::Reader => "reader",
@@ -50,26 +52,16 @@ fn print_refusal<R: Print>(rt: &R, name: &str, refusal: &Refusal) -> io::Result<
 }
 
 fn run_case<R: Print>(rt: &R, name: &str, file: Option<&[u8]>) -> io::Result<()> {
-    let mut table = [Fact {
-        kind: 0,
-        words: [0; WORDS],
-    }; MOST_FACTS];
+    let mut table = NO_FACTS;
     match load_facts::<Lengths>(file, &mut table) {
         Ok(count) => print_facts(rt, name, &table[0..count]),
         Err(refusal) => print_refusal(rt, name, &refusal),
     }
 }
 
-fn as_file(read: &io::Result<Vec<u8>>) -> Option<&[u8]> {
-    match read {
-        Ok(bytes) => Some(bytes.as_slice()),
-        Err(_) => None,
-    }
-}
-
 fn read_and_run(rt: &HostRuntime, name: &str) -> io::Result<()> {
-    let read = fs::read(rt, name);
-    run_case(rt, name, as_file(&read))
+    let read = fs::read(rt, name).ok();
+    run_case(rt, name, read.as_deref())
 }
 
 fn main(rt: HostRuntime) -> io::Result<()> {

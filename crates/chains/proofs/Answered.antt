@@ -1,18 +1,17 @@
 -- What is found by a place on a chain, in the language of the pairs.
 use Rattle.std.proofs.Common.{◌≡◌, ℕ, suc, ◌-◌, ◌<◌, ◌≤◌, ◌%◌, Bool, true, false, cond, eqb, ltb, List, [], ◌∷◌, length, get_or, ℤ, pos, negsuc, Some, None, Option, refl, sym, ap, subst, ◌∙◌, arith}
+use Rattle.std.specs.Bool.{then_some}
 use Rattle.std.proofs.lemmas.Bool.{and_parts, eqb-true, eq-eqb, lt-ltb, false≢true}
 use Rattle.std.proofs.lemmas.Bool.Decides.{nat_tests}
 use Rattle.facts.specs.declared.fact_types.Fact.{Fact}
 use Rattle.stores.specs.Lists.{all}
 use Rattle.stores.specs.Store.{Pair, fact, sameℤ, read, of_kind, of_kind_with, next_of, next_with}
 use Rattle.stores.specs.Piles.{sound_pair, sound}
-use Rattle.stores.specs.Table.{pairs_of, pile_of, distinct}
-use Rattle.stores.specs.declared.row_types.Row.{Row}
-use Rattle.stores.specs.declared.row_types.Row.TheVariants.{Free, Used}
+use Rattle.stores.specs.Table.{Row, pairs_of, pile_of, distinct}
 use Rattle.stores.proofs.Tables.{rises-pairs}
 use Rattle.chains.specs.Links.{next_in, on_chain, has_label, points, Linked}
 use Rattle.chains.specs.Rows.{magnitude, chain_of, chain_at}
-use Rattle.chains.specs.Acts.{label_in, label_of_row, asked_label}
+use Rattle.chains.specs.Acts.{label_in, asked_label, Finds}
 use Rattle.chains.specs.declared.chain_types.Way.TheVariants.{ByLabel, ByKind, ByWord}
 use Rattle.chains.proofs.Nexts.{passes_at, next_in_that, next-none, next-less, next-same, next-passes}
 use Rattle.chains.proofs.Named.{used-read, all-read, owed-pairs}
@@ -33,17 +32,25 @@ held-chain : (l : ℕ) (ps : List Pair) (q : Option Fact) (f : Fact) → q ≡ S
 held-chain l ps q f e = rw (e, eq-eqb (l % 64) (l % 64) refl) refl
 
 -- a label that is held stands at its place
-pub found-at : (R : List Row) (at l : ℕ) (f : Fact) → 1 ≤ l → read l (pairs_of R) ≡ Some f → points R at (next_in (on_chain (chain_at ByLabel) (l % 64)) (l - 1) (pairs_of R)) ≡ true → has_label l (get_or R at Free) ≡ true
+pub found-at : (R : List Row) (at l : ℕ) (f : Fact) → 1 ≤ l → read l (pairs_of R) ≡ Some f → points R at (next_in (on_chain (chain_at ByLabel) (l % 64)) (l - 1) (pairs_of R)) ≡ true → has_label l (get_or R at None) ≡ true
 found-at R at l f h e p =
     let q = freed-found (on_chain (chain_at ByLabel) (l % 64)) (pairs_of R) l (rises-pairs R) (held-chain l (pairs_of R) (read l (pairs_of R)) f e) h in
     rw q at p
 
-pub found-not : (R : List Row) (at l : ℕ) → 1 ≤ l → points R at (next_in (on_chain (chain_at ByLabel) (l % 64)) (l - 1) (pairs_of R)) ≡ true → has_label l (get_or R at Free) ≡ false → read l (pairs_of R) ≡ None
+pub found-not : (R : List Row) (at l : ℕ) → 1 ≤ l → points R at (next_in (on_chain (chain_at ByLabel) (l % 64)) (l - 1) (pairs_of R)) ≡ true → has_label l (get_or R at None) ≡ false → read l (pairs_of R) ≡ None
 found-not R at l h p n = go (read l (pairs_of R)) refl
   where
     go : (q : Option Fact) → read l (pairs_of R) ≡ q → read l (pairs_of R) ≡ None
     go None e = e
     go (Some f) e = let z = found-at R at l f h e p in absurd (false≢true (sym n ∙ z))
+
+-- what is found at its place: the label's fact, or that of another label
+pub found : (R : List Row) (at l m : ℕ) (f : Fact) → 1 ≤ l → points R at (next_in (on_chain (chain_at ByLabel) (l % 64)) (l - 1) (pairs_of R)) ≡ true → get_or R at None ≡ Some (m, f) → Finds l R (then_some (eqb m l) (at, f))
+found R at l m f h p e = go (eqb m l) refl
+  where
+    go : (b : Bool) → eqb m l ≡ b → Finds l R (then_some b (at, f))
+    go true q = e ∙ ap (λ (n : ℕ). Some (n, f)) (eqb-true m l q)
+    go false q = found-not R at l h p (ap (has_label l) e ∙ q)
 
 -- the first label of a kind ------------------------------------------------------------------------------------
 
@@ -59,14 +66,19 @@ kind-none kind a R h o = go (pairs_of R) (owed-pairs R o)
     go [] s = refl
     go (p ∷ ps) s = let ih = go ps in grind (arith, nat_tests)
 
+-- the label of a row, or none
+abbrev pub label_of_row : Row → Option ℕ
+label_of_row None = None
+label_of_row (Some (l, f)) = Some l
+
 -- what a number names is what it is found as
-pub named : (R : List Row) (i : ℕ) (o : Option ℕ) → points R i o ≡ true → i < length R → label_of_row (get_or R i Free) ≡ o
-named R i o p h = go (get_or R i Free) refl o p
+pub named : (R : List Row) (i : ℕ) (o : Option ℕ) → points R i o ≡ true → i < length R → label_of_row (get_or R i None) ≡ o
+named R i o p h = go (get_or R i None) refl o p
   where
-    go : (r : Row) → get_or R i Free ≡ r → (q : Option ℕ) → points R i q ≡ true → label_of_row (get_or R i Free) ≡ q
+    go : (r : Row) → get_or R i None ≡ r → (q : Option ℕ) → points R i q ≡ true → label_of_row (get_or R i None) ≡ q
     go r e None p = let z = lt-ltb i (length R) h in absurd (false≢true (grind (arith, nat_tests)))
-    go Free e (Some n) p = let z : has_label n (get_or R i Free) ≡ false = ap (has_label n) e in absurd (false≢true (sym z ∙ p))
-    go (Used l f) e (Some n) p = let z : has_label n (get_or R i Free) ≡ eqb l n = ap (has_label n) e in ap label_of_row e ∙ ap (λ (x : ℕ). Some x) (eqb-true l n (sym z ∙ p))
+    go None e (Some n) p = let z : has_label n (get_or R i None) ≡ false = ap (has_label n) e in absurd (false≢true (sym z ∙ p))
+    go (Some (l, f)) e (Some n) p = let z : has_label n (get_or R i None) ≡ eqb l n = ap (has_label n) e in ap label_of_row e ∙ ap (λ (x : ℕ). Some x) (eqb-true l n (sym z ∙ p))
 
 -- the first label of a kind and a first word ----------------------------------------------------------------------
 
@@ -98,7 +110,7 @@ asking_end kind word above at R a q h =
     sym q.same ∙ next-none t (λ p. of_kind_with kind word (fact p)) a (pairs_of R) (asked_chain kind word) (meets-none R at (next_in t a (pairs_of R)) h q.next)
 
 -- a row that is met: it is the answer, or the walk goes on behind its label
-pub asking_met : (kind : ℕ) (word : ℤ) (above at : ℕ) (R : List Row) (a l : ℕ) (f : Fact) → distinct R ≡ true → sound (pile_of R) ≡ true → Asking kind word above at R a → at < length R → get_or R at Free ≡ Used l f → next_with kind word above (pairs_of R) ≡ cond (of_kind_with kind word f) (Some l) (next_in (λ p. of_kind_with kind word (fact p)) l (pairs_of R))
+pub asking_met : (kind : ℕ) (word : ℤ) (above at : ℕ) (R : List Row) (a l : ℕ) (f : Fact) → distinct R ≡ true → sound (pile_of R) ≡ true → Asking kind word above at R a → at < length R → get_or R at None ≡ Some (l, f) → next_with kind word above (pairs_of R) ≡ cond (of_kind_with kind word f) (Some l) (next_in (λ p. of_kind_with kind word (fact p)) l (pairs_of R))
 asking_met kind word above at R a l f d o q h e =
     let t = on_chain (chain_at ByWord) (chain_of ByWord 0 kind word) in
     let u = λ (p : Pair). of_kind_with kind word (fact p) in
@@ -108,7 +120,7 @@ asking_met kind word above at R a l f d o q h e =
     sym q.same ∙ n ∙ rw r refl
 
 -- behind a row that is not the answer
-pub asking_more : (kind : ℕ) (word : ℤ) (above at : ℕ) (R : List Row) (L H : List ℕ) (a l : ℕ) (f : Fact) → distinct R ≡ true → sound (pile_of R) ≡ true → Linked (chain_at ByWord) R L H → Asking kind word above at R a → at < length R → get_or R at Free ≡ Used l f → of_kind_with kind word f ≡ false → Asking kind word above (get_or L at 0) R l
+pub asking_more : (kind : ℕ) (word : ℤ) (above at : ℕ) (R : List Row) (L H : List ℕ) (a l : ℕ) (f : Fact) → distinct R ≡ true → sound (pile_of R) ≡ true → Linked (chain_at ByWord) R L H → Asking kind word above at R a → at < length R → get_or R at None ≡ Some (l, f) → of_kind_with kind word f ≡ false → Asking kind word above (get_or L at 0) R l
 asking_more kind word above at R L H a l f d o k q h e n =
     let t = on_chain (chain_at ByWord) (chain_of ByWord 0 kind word) in
     let m = meets (chain_at ByWord) R (chain_of ByWord 0 kind word) a at l f d o e q.next h in
@@ -120,32 +132,32 @@ asking_more kind word above at R L H a l f d o k q h e n =
 
 -- the label at a row of the walk, from which the measure falls
 pub rank : List Row → ℕ → ℕ
-rank R at = cond (ltb at (length R)) (1000001 - label_in (get_or R at Free)) 0
+rank R at = cond (ltb at (length R)) (1000001 - label_in (get_or R at None)) 0
 
-pub rank-falls : (R : List Row) (at i a l : ℕ) (f : Fact) (key : Pair → ℕ) (b : ℕ) → distinct R ≡ true → sound (pile_of R) ≡ true → at < length R → get_or R at Free ≡ Used l f → l ≤ 1000000 → points R i (next_in (on_chain key b) l (pairs_of R)) ≡ true → rank R i < rank R at
+pub rank-falls : (R : List Row) (at i a l : ℕ) (f : Fact) (key : Pair → ℕ) (b : ℕ) → distinct R ≡ true → sound (pile_of R) ≡ true → at < length R → get_or R at None ≡ Some (l, f) → l ≤ 1000000 → points R i (next_in (on_chain key b) l (pairs_of R)) ≡ true → rank R i < rank R at
 unfolding rank
-rank-falls R at i a l f key b d o h e few p = go (get_or R i Free) refl (next_in (on_chain key b) l (pairs_of R)) refl p
+rank-falls R at i a l f key b d o h e few p = go (get_or R i None) refl (next_in (on_chain key b) l (pairs_of R)) refl p
   where
-    here : cond (ltb at (length R)) (1000001 - label_in (get_or R at Free)) 0 ≡ 1000001 - l
+    here : cond (ltb at (length R)) (1000001 - label_in (get_or R at None)) 0 ≡ 1000001 - l
     here = rw (lt-ltb at (length R) h, e) refl
 
-    go : (r : Row) → get_or R i Free ≡ r → (q : Option ℕ) → next_in (on_chain key b) l (pairs_of R) ≡ q → points R i q ≡ true → cond (ltb i (length R)) (1000001 - label_in (get_or R i Free)) 0 < cond (ltb at (length R)) (1000001 - label_in (get_or R at Free)) 0
+    go : (r : Row) → get_or R i None ≡ r → (q : Option ℕ) → next_in (on_chain key b) l (pairs_of R) ≡ q → points R i q ≡ true → cond (ltb i (length R)) (1000001 - label_in (get_or R i None)) 0 < cond (ltb at (length R)) (1000001 - label_in (get_or R at None)) 0
     go r y None z w = let u = here in grind (arith, nat_tests)
-    go Free y (Some n) z w = let x : has_label n (get_or R i Free) ≡ false = ap (has_label n) y in absurd (false≢true (sym x ∙ w))
-    go (Used m g) y (Some n) z w =
-        let x : has_label n (get_or R i Free) ≡ eqb m n = ap (has_label n) y in
+    go None y (Some n) z w = let x : has_label n (get_or R i None) ≡ false = ap (has_label n) y in absurd (false≢true (sym x ∙ w))
+    go (Some (m, g)) y (Some n) z w =
+        let x : has_label n (get_or R i None) ≡ eqb m n = ap (has_label n) y in
         let k : m ≡ n = eqb-true m n (sym x ∙ w) in
         let v = (next-passes (on_chain key b) l n (pairs_of R) (rises-pairs R) z).0 in
         let u = here in
-        let j : label_in (get_or R i Free) ≡ m = ap label_in y in
+        let j : label_in (get_or R i None) ≡ m = ap label_in y in
         grind (arith, nat_tests)
 
-pub asked_answer : (kind : ℕ) (word : ℤ) (above at : ℕ) (R : List Row) (a l : ℕ) → distinct R ≡ true → sound (pile_of R) ≡ true → Asking kind word above at R a → at < length R → asked_label kind word (get_or R at Free) ≡ Some l → next_with kind word above (pairs_of R) ≡ Some l
-asked_answer kind word above at R a l d o q h e = go (get_or R at Free) refl
+pub asked_answer : (kind : ℕ) (word : ℤ) (above at : ℕ) (R : List Row) (a l : ℕ) → distinct R ≡ true → sound (pile_of R) ≡ true → Asking kind word above at R a → at < length R → asked_label kind word (get_or R at None) ≡ Some l → next_with kind word above (pairs_of R) ≡ Some l
+asked_answer kind word above at R a l d o q h e = go (get_or R at None) refl
   where
-    go : (r : Row) → get_or R at Free ≡ r → next_with kind word above (pairs_of R) ≡ Some l
-    go Free y = let x : None ≡ Some l = sym (ap (asked_label kind word) y) ∙ e in let v : ◌≡◌ {A = ℕ} 0 1 = cc in absurd (omega arith)
-    go (Used m f) y =
+    go : (r : Row) → get_or R at None ≡ r → next_with kind word above (pairs_of R) ≡ Some l
+    go None y = let x : None ≡ Some l = sym (ap (asked_label kind word) y) ∙ e in let v : ◌≡◌ {A = ℕ} 0 1 = cc in absurd (omega arith)
+    go (Some (m, f)) y =
         let x : cond (of_kind_with kind word f) (Some m) None ≡ Some l = sym (ap (asked_label kind word) y) ∙ e in
         let z = asking_met kind word above at R a m f d o q h y in
         pick (of_kind_with kind word f) (next_in (λ p. of_kind_with kind word (fact p)) m (pairs_of R)) x z
@@ -154,12 +166,12 @@ asked_answer kind word above at R a l d o q h e = go (get_or R at Free) refl
         pick true n x z = z ∙ x
         pick false n x z = let v : ◌≡◌ {A = ℕ} 0 1 = cc in absurd (omega arith)
 
-pub asked_on : (kind : ℕ) (word : ℤ) (above at : ℕ) (R : List Row) (L H : List ℕ) (a : ℕ) → distinct R ≡ true → sound (pile_of R) ≡ true → Linked (chain_at ByWord) R L H → Asking kind word above at R a → at < length R → asked_label kind word (get_or R at Free) ≡ None → ((b : ℕ) × Asking kind word above (get_or L at 0) R b) × (rank R (get_or L at 0) < rank R at)
-asked_on kind word above at R L H a d o k q h e = go (get_or R at Free) refl
+pub asked_on : (kind : ℕ) (word : ℤ) (above at : ℕ) (R : List Row) (L H : List ℕ) (a : ℕ) → distinct R ≡ true → sound (pile_of R) ≡ true → Linked (chain_at ByWord) R L H → Asking kind word above at R a → at < length R → asked_label kind word (get_or R at None) ≡ None → ((b : ℕ) × Asking kind word above (get_or L at 0) R b) × (rank R (get_or L at 0) < rank R at)
+asked_on kind word above at R L H a d o k q h e = go (get_or R at None) refl
   where
-    go : (r : Row) → get_or R at Free ≡ r → ((b : ℕ) × Asking kind word above (get_or L at 0) R b) × (rank R (get_or L at 0) < rank R at)
-    go Free y = let n = meets-used R at (next_in (on_chain (chain_at ByWord) (chain_of ByWord 0 kind word)) a (pairs_of R)) y q.next in absurd (omega arith)
-    go (Used m f) y =
+    go : (r : Row) → get_or R at None ≡ r → ((b : ℕ) × Asking kind word above (get_or L at 0) R b) × (rank R (get_or L at 0) < rank R at)
+    go None y = let n = meets-used R at (next_in (on_chain (chain_at ByWord) (chain_of ByWord 0 kind word)) a (pairs_of R)) y q.next in absurd (omega arith)
+    go (Some (m, f)) y =
         let x : cond (of_kind_with kind word f) (Some m) None ≡ None = sym (ap (asked_label kind word) y) ∙ e in
         let w = no (of_kind_with kind word f) x in
         let u = asking_more kind word above at R L H a m f d o k q h y w in

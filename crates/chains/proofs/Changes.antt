@@ -1,19 +1,17 @@
 -- A pair put into a table of linked rows, and one taken out: what holds of the table and its heads afterwards.
-use Rattle.std.proofs.Common.{◌≡◌, ℕ, zero, suc, ◌+◌, ◌-◌, ◌<◌, ◌≤◌, true, false, List, [], ◌∷◌, length, get_or, set, None, Ok, refl, sym, ap, subst, ◌∙◌, arith, length-set, get_or-set_other, get_or-set_same}
+use Rattle.std.proofs.Common.{⊎_elim, inl, inr, ◌⊎◌, ◌≡◌, ℕ, zero, suc, ◌+◌, ◌-◌, ◌<◌, ◌≤◌, true, false, List, [], ◌∷◌, length, get_or, set, None, Ok, refl, sym, ap, subst, ◌∙◌, arith, length-set, get_or-set_other, get_or-set_same, Some}
 use Rattle.std.proofs.lemmas.List.{map-set}
-use Rattle.std.proofs.lemmas.Bool.{eq-eqb}
+use Rattle.std.proofs.lemmas.Bool.{eq-eqb, cases_lt}
 use Rattle.std.proofs.lemmas.Bool.Decides.{nat_tests}
 use Rattle.facts.specs.declared.fact_types.Fact.{Fact}
 use Rattle.stores.specs.Store.{read}
 use Rattle.stores.specs.Piles.{sound_pair, after_put, after_take}
-use Rattle.stores.specs.Table.{pairs_of, pile_of, absent}
+use Rattle.stores.specs.Table.{Row, pairs_of, pile_of, absent}
 use Rattle.stores.specs.Scans.{RowAt}
-use Rattle.stores.specs.declared.row_types.Row.{Row}
-use Rattle.stores.specs.declared.row_types.Row.TheVariants.{Free, Used}
 use Rattle.stores.proofs.Pairs.{read-placed, length-placed}
 use Rattle.stores.proofs.Tables.{pairs-put, row_at, used_in, count-is, used-few}
 use Rattle.chains.specs.Links.{frees}
-use Rattle.chains.specs.Rows.{rows_of, chain_at, link, links_of, heads_of, LinkedWay, Chained}
+use Rattle.chains.specs.Rows.{rows_of, chain_at, link, links_of, heads_of, LinkedWay, Walkable, Chained}
 use Rattle.chains.specs.Acts.{same_way, free_row, Leaves}
 use Rattle.chains.specs.declared.chain_types.ChainRow.{ChainRow}
 use Rattle.chains.specs.declared.chain_types.Heads.{Heads}
@@ -26,31 +24,87 @@ use Rattle.chains.proofs.Spare.{first-free, frees_fill, frees-free}
 
 pub read-absent : (l : ℕ) (t : List Row) → read l (pairs_of t) ≡ None → absent l t ≡ true
 read-absent l [] e = refl
-read-absent l (Free ∷ t) e = read-absent l t e
-read-absent l (Used m f ∷ t) e = let ih = read-absent l t in let r = read-placed l m f (pairs_of t) in grind (arith, nat_tests)
+read-absent l (None ∷ t) e = read-absent l t e
+read-absent l (Some (m, f) ∷ t) e = let ih = read-absent l t in let r = read-placed l m f (pairs_of t) in grind (arith, nat_tests)
 
--- a change of the links of one way leaves those of another right
-pub still : (v w : Way) (i : ℕ) (t u : List ChainRow) (h g : Heads) → same_way v w ≡ false → Leaves w i t u h g → LinkedWay v (rows_of t) t h → LinkedWay v (rows_of u) u g
-still v w i t u h g e s k = rw (s.rows, s.links v e, s.heads v e) k
+-- the place of a way among the three
+abbrev pub number : Way → ℕ
+number ByLabel = 0
+number ByKind = 1
+number ByWord = 2
 
--- one change of each way
-module _ (R : List Row) (i : ℕ) (t t1 t2 t3 : List ChainRow) (h h1 h2 h3 : Heads) (x : Leaves ByLabel i t t1 h h1) (y : Leaves ByKind i t1 t2 h1 h2) (z : Leaves ByWord i t2 t3 h2 h3) where
-  pub all-rows : rows_of t3 ≡ rows_of t
-  all-rows = z.rows ∙ y.rows ∙ x.rows
+abbrev pub ways : List Way
+ways = ByLabel ∷ ByKind ∷ ByWord ∷ []
 
-  pub all-linked : LinkedWay ByLabel R t1 h1 → LinkedWay ByKind R t2 h2 → LinkedWay ByWord R t3 h3 → (w : Way) → LinkedWay w R t3 h3
-  all-linked a b c ByLabel = rw (z.links ByLabel refl, y.links ByLabel refl, z.heads ByLabel refl, y.heads ByLabel refl) a
-  all-linked a b c ByKind = rw (z.links ByKind refl, z.heads ByKind refl) b
-  all-linked a b c ByWord = c
+pub number-of : (k : ℕ) → k < 3 → number (get_or ways k ByLabel) ≡ k
+number-of zero h = refl
+number-of (suc zero) h = refl
+number-of (suc (suc zero)) h = refl
+number-of (suc (suc (suc k))) h = absurd (omega arith)
 
-  pub all-frees : (j : ℕ) → (j ≡ i → ⊥) → j < length (rows_of t) → get_or (rows_of t) j Free ≡ Free → get_or (links_of ByLabel t3) j 0 ≡ get_or (links_of ByLabel t) j 0
-  all-frees j n l e = ap (λ m. get_or m j 0) (z.links ByLabel refl ∙ y.links ByLabel refl) ∙ x.frees j n l e
+few_ways : (w : Way) → number w < 3
+few_ways ByLabel = omega arith
+few_ways ByKind = omega arith
+few_ways ByWord = omega arith
 
-  pub all-free : h3.free ≡ h.free
-  all-free = z.free ∙ y.free ∙ x.free
+one_way : (v w : Way) → (v ≡ w) ⊎ ((same_way v w ≡ false) × (number v ≡ number w → ⊥))
+one_way ByLabel ByLabel = inl refl
+one_way ByLabel ByKind = inr (refl, λ e. omega arith)
+one_way ByLabel ByWord = inr (refl, λ e. omega arith)
+one_way ByKind ByLabel = inr (refl, λ e. omega arith)
+one_way ByKind ByKind = inl refl
+one_way ByKind ByWord = inr (refl, λ e. omega arith)
+one_way ByWord ByLabel = inr (refl, λ e. omega arith)
+one_way ByWord ByKind = inr (refl, λ e. omega arith)
+one_way ByWord ByWord = inl refl
 
-  pub all-count : h3.count ≡ h.count
-  all-count = z.count ∙ y.count ∙ x.count
+-- the first ways are linked as with another row at a place, and the others as they were
+pub record Stage (n i : ℕ) (r : Row) (t u : List ChainRow) (h g : Heads) : Type 0 where
+  pub rows : rows_of u ≡ rows_of t
+  pub done : (w : Way) → number w < n → LinkedWay w (set (rows_of t) i r) u g
+  pub left : (w : Way) → n ≤ number w → LinkedWay w (rows_of t) u g
+  pub frees : (j : ℕ) → (j ≡ i → ⊥) → j < length (rows_of t) → get_or (rows_of t) j None ≡ None → get_or (links_of ByLabel u) j 0 ≡ get_or (links_of ByLabel t) j 0
+  pub free : g.free ≡ h.free
+  pub count : g.count ≡ h.count
+
+pub stage_begin : (i : ℕ) (r : Row) (t : List ChainRow) (h : Heads) → ((w : Way) → LinkedWay w (rows_of t) t h) → Stage 0 i r t t h h
+stage_begin i r t h k =
+    record {
+      rows = refl;
+      done = λ w l. absurd (omega arith);
+      left = λ w l. k w;
+      frees = λ j n l e. refl;
+      free = refl;
+      count = refl;
+    }
+
+module _ (n i : ℕ) (r : Row) (t u : List ChainRow) (h g : Heads) (s : Stage n i r t u h g) where
+  pub stage_walk : Chained t h → n < 3 → Walkable (get_or ways n ByLabel) u g
+  stage_walk c l =
+      let w = get_or ways n ByLabel in
+      let e = number-of n l in
+      record {
+        apart = rw s.rows c.apart;
+        kept = rw s.rows c.kept;
+        linked = subst (λ (R : List Row). LinkedWay w R u g) (sym s.rows) (s.left w (omega arith));
+      }
+
+  pub stage_all : n ≡ 3 → (w : Way) → LinkedWay w (set (rows_of t) i r) u g
+  stage_all e w = let f = few_ways w in s.done w (omega arith)
+
+  pub stage_more : (w : Way) (v : List ChainRow) (f : Heads) → number w ≡ n → Leaves w i u v g f → LinkedWay w (set (rows_of u) i r) v f → Stage (n + 1) i r t v h f
+  stage_more w v f e y m =
+      record {
+        rows = y.rows ∙ s.rows;
+        done = λ x l. ⊎_elim (λ q. subst (λ (z : Way). LinkedWay z (set (rows_of t) i r) v f) (sym q) (subst (λ (R : List Row). LinkedWay w (set R i r) v f) s.rows m)) (λ q. let a = q.1 in rw (y.links x q.0, y.heads x q.0) (s.done x (less x l a))) (one_way x w);
+        left = λ x l. ⊎_elim (λ q. let a = ap number q in absurd (omega arith)) (λ q. rw (y.links x q.0, y.heads x q.0) (s.left x (omega arith))) (one_way x w);
+        frees = λ j a l z. ⊎_elim (λ q. subst (λ (x : Way). get_or (links_of x v) j 0 ≡ get_or (links_of x u) j 0) (sym q) (y.frees j a (rw s.rows l) (rw s.rows z))) (λ q. ap (λ x. get_or x j 0) (y.links ByLabel q.0)) (one_way ByLabel w) ∙ s.frees j a l z;
+        free = y.free ∙ s.free;
+        count = y.count ∙ s.count;
+      }
+    where
+      less : (x : Way) → number x < n + 1 → (number x ≡ number w → ⊥) → number x < n
+      less x l a = ⊎_elim (λ h. h) (λ h. let b : number x ≡ number w = omega arith in absurd (a b)) (cases_lt (number x) n)
 
 -- a pair is put ---------------------------------------------------------------------------------------------------
 
@@ -58,29 +112,29 @@ pub free-first : (t : List ChainRow) (h : Heads) → Chained t h → h.count < l
 free-first t h c r = let e : length t - h.count ≡ suc (length t - h.count - 1) = omega arith in subst (λ (n : ℕ). frees (rows_of t) (links_of ByLabel t) h.free n ≡ true) e c.spare
 
 -- the row's links stay as it gets the pair
-pub filled-links : (w : Way) (t : List ChainRow) (i l : ℕ) (f : Fact) → links_of w (set t i (record (get_or t i blank) { row = Used l f })) ≡ links_of w t
-filled-links ByLabel t i l f = links_stay ByLabel t i (record (get_or t i blank) { row = Used l f }) refl
-filled-links ByKind t i l f = links_stay ByKind t i (record (get_or t i blank) { row = Used l f }) refl
-filled-links ByWord t i l f = links_stay ByWord t i (record (get_or t i blank) { row = Used l f }) refl
+pub filled-links : (w : Way) (t : List ChainRow) (i l : ℕ) (f : Fact) → links_of w (set t i (record (get_or t i blank) { row = Some (l, f) })) ≡ links_of w t
+filled-links ByLabel t i l f = links_stay ByLabel t i (record (get_or t i blank) { row = Some (l, f) }) refl
+filled-links ByKind t i l f = links_stay ByKind t i (record (get_or t i blank) { row = Some (l, f) }) refl
+filled-links ByWord t i l f = links_stay ByWord t i (record (get_or t i blank) { row = Some (l, f) }) refl
 
-pub filled-rows : (t : List ChainRow) (i l : ℕ) (f : Fact) → rows_of (set t i (record (get_or t i blank) { row = Used l f })) ≡ set (rows_of t) i (Used l f)
-filled-rows t i l f = map-set (λ r. r.row) t i (record (get_or t i blank) { row = Used l f })
+pub filled-rows : (t : List ChainRow) (i l : ℕ) (f : Fact) → rows_of (set t i (record (get_or t i blank) { row = Some (l, f) })) ≡ set (rows_of t) i (Some (l, f))
+filled-rows t i l f = map-set (λ r. r.row) t i (record (get_or t i blank) { row = Some (l, f) })
 
 module _ (t t3 : List ChainRow) (h h3 : Heads) (l : ℕ) (f : Fact) (c : Chained t h) (p : sound_pair (l, f) ≡ true) (n : read l (pairs_of (rows_of t)) ≡ None) (r : h.count < length t) where
-  pub free-row : (get_or (rows_of t) h.free Free ≡ Free) × (h.free < length t)
+  pub free-row : (get_or (rows_of t) h.free None ≡ None) × (h.free < length t)
   free-row = let q = first-free (rows_of t) (links_of ByLabel t) h.free (length t - h.count - 1) (free-first t h c r) in let z = rows-length t in let w = q.within in (q.free, omega arith)
 
   suited : RowAt l (rows_of t) h.free
   suited = let q = first-free (rows_of t) (links_of ByLabel t) h.free (length t - h.count - 1) (free-first t h c r) in row_at (rows_of t) h.free l c.apart c.kept q.within (rw q.free (read-absent l (rows_of t) n))
 
-  module _ (rows : rows_of t3 ≡ rows_of t) (linked : (w : Way) → LinkedWay w (set (rows_of t) h.free (Used l f)) t3 h3) (others : (j : ℕ) → (j ≡ h.free → ⊥) → j < length (rows_of t) → get_or (rows_of t) j Free ≡ Free → get_or (links_of ByLabel t3) j 0 ≡ get_or (links_of ByLabel t) j 0) (count : h3.count ≡ h.count) where
-    new_rows : rows_of (set t3 h.free (record (get_or t3 h.free blank) { row = Used l f })) ≡ set (rows_of t) h.free (Used l f)
-    new_rows = filled-rows t3 h.free l f ∙ ap (λ (x : List Row). set x h.free (Used l f)) rows
+  module _ (rows : rows_of t3 ≡ rows_of t) (linked : (w : Way) → LinkedWay w (set (rows_of t) h.free (Some (l, f))) t3 h3) (others : (j : ℕ) → (j ≡ h.free → ⊥) → j < length (rows_of t) → get_or (rows_of t) j None ≡ None → get_or (links_of ByLabel t3) j 0 ≡ get_or (links_of ByLabel t) j 0) (count : h3.count ≡ h.count) where
+    new_rows : rows_of (set t3 h.free (record (get_or t3 h.free blank) { row = Some (l, f) })) ≡ set (rows_of t) h.free (Some (l, f))
+    new_rows = filled-rows t3 h.free l f ∙ ap (λ (x : List Row). set x h.free (Some (l, f))) rows
 
-    pub added_pile : pile_of (rows_of (set t3 h.free (record (get_or t3 h.free blank) { row = Used l f }))) ≡ after_put l f (pile_of (rows_of t)) (Ok tt)
+    pub added_pile : pile_of (rows_of (set t3 h.free (record (get_or t3 h.free blank) { row = Some (l, f) }))) ≡ after_put l f (pile_of (rows_of t)) (Ok tt)
     added_pile = ap pile_of new_rows ∙ suited.puts f
 
-    added-count : h3.count + 1 ≡ length (pairs_of (set (rows_of t) h.free (Used l f)))
+    added-count : h3.count + 1 ≡ length (pairs_of (set (rows_of t) h.free (Some (l, f))))
     added-count =
         let q = first-free (rows_of t) (links_of ByLabel t) h.free (length t - h.count - 1) (free-first t h c r) in
         let e = ap length (pairs-put (rows_of t) h.free l f c.apart q.within (rw q.free (read-absent l (rows_of t) n))) in
@@ -88,16 +142,16 @@ module _ (t t3 : List ChainRow) (h h3 : Heads) (l : ℕ) (f : Fact) (c : Chained
         let m = c.counted in
         omega arith
 
-    added-spare : frees (set (rows_of t) h.free (Used l f)) (links_of ByLabel t3) (get_or (links_of ByLabel t) h.free 0) (length t - (h3.count + 1)) ≡ true
+    added-spare : frees (set (rows_of t) h.free (Some (l, f))) (links_of ByLabel t3) (get_or (links_of ByLabel t) h.free 0) (length t - (h3.count + 1)) ≡ true
     added-spare =
         let e = free-first t h c r in
         let q = first-free (rows_of t) (links_of ByLabel t) h.free (length t - h.count - 1) e in
         let m : length t - (h3.count + 1) ≡ length t - h.count - 1 = omega arith in
         rw m (frees_fill (rows_of t) (links_of ByLabel t) (links_of ByLabel t3) h.free (get_or (links_of ByLabel t) h.free 0) (length t - h.count - 1) (length t - h.count - 1) l f others e q.rest (omega arith))
 
-    pub added : (g : Heads) → ((w : Way) → heads_of w g ≡ heads_of w h3) → g.free ≡ get_or (links_of ByLabel t) h.free 0 → g.count ≡ h3.count + 1 → Chained (set t3 h.free (record (get_or t3 h.free blank) { row = Used l f })) g
+    pub added : (g : Heads) → ((w : Way) → heads_of w g ≡ heads_of w h3) → g.free ≡ get_or (links_of ByLabel t) h.free 0 → g.count ≡ h3.count + 1 → Chained (set t3 h.free (record (get_or t3 h.free blank) { row = Some (l, f) })) g
     added g hs fr co =
-        let s = length-set t3 h.free (record (get_or t3 h.free blank) { row = Used l f }) in
+        let s = length-set t3 h.free (record (get_or t3 h.free blank) { row = Some (l, f) }) in
         let u : length t3 ≡ length t = sym (rows-length t3) ∙ ap length rows ∙ rows-length t in
         record {
           apart = rw new_rows (suited.puts_apart f);
@@ -109,12 +163,12 @@ module _ (t t3 : List ChainRow) (h h3 : Heads) (l : ℕ) (f : Fact) (c : Chained
 
 -- a pair is taken out -----------------------------------------------------------------------------------------------
 
-used-freed : (t : List Row) (i l : ℕ) (f : Fact) → get_or t i Free ≡ Used l f → used_in (set t i Free) + 1 ≡ used_in t
+used-freed : (t : List Row) (i l : ℕ) (f : Fact) → get_or t i None ≡ Some (l, f) → used_in (set t i None) + 1 ≡ used_in t
 used-freed [] i l f e = let w = used-within [] i l f e in absurd (omega arith)
-used-freed (Free ∷ t) zero l f e = let z : ◌≡◌ {A = ℕ} 0 1 = cc in absurd (omega arith)
-used-freed (Used m g ∷ t) zero l f e = omega arith
-used-freed (Free ∷ t) (suc i) l f e = used-freed t i l f e
-used-freed (Used m g ∷ t) (suc i) l f e = let ih = used-freed t i l f e in omega arith
+used-freed (None ∷ t) zero l f e = let z : ◌≡◌ {A = ℕ} 0 1 = cc in absurd (omega arith)
+used-freed (Some (m, g) ∷ t) zero l f e = omega arith
+used-freed (None ∷ t) (suc i) l f e = used-freed t i l f e
+used-freed (Some (m, g) ∷ t) (suc i) l f e = let ih = used-freed t i l f e in omega arith
 
 -- some link of the free row
 abbrev new_link : Way → ℕ → ℕ
@@ -123,7 +177,7 @@ new_link w n = link w (free_row n)
 freed-links : (w : Way) (t : List ChainRow) (i n : ℕ) → links_of w (set t i (free_row n)) ≡ set (links_of w t) i (new_link w n)
 freed-links w t i n = map-set (link w) t i (free_row n)
 
-module _ (t t3 : List ChainRow) (h h3 : Heads) (i l : ℕ) (f : Fact) (c : Chained t h) (e : get_or (rows_of t) i Free ≡ Used l f) where
+module _ (t t3 : List ChainRow) (h h3 : Heads) (i l : ℕ) (f : Fact) (c : Chained t h) (e : get_or (rows_of t) i None ≡ Some (l, f)) where
   pub held-within : i < length t
   held-within = let w = used-within (rows_of t) i l f e in let n = rows-length t in omega arith
 
@@ -139,28 +193,28 @@ module _ (t t3 : List ChainRow) (h h3 : Heads) (i l : ℕ) (f : Fact) (c : Chain
       let m = c.counted in
       (omega arith, omega arith)
 
-  module _ (rows : rows_of t3 ≡ rows_of t) (linked : (w : Way) → LinkedWay w (set (rows_of t) i Free) t3 h3) (others : (j : ℕ) → (j ≡ i → ⊥) → j < length (rows_of t) → get_or (rows_of t) j Free ≡ Free → get_or (links_of ByLabel t3) j 0 ≡ get_or (links_of ByLabel t) j 0) (count : h3.count ≡ h.count) (free : h3.free ≡ h.free) where
-    left_rows : rows_of (set t3 i (free_row h3.free)) ≡ set (rows_of t) i Free
-    left_rows = map-set (λ r. r.row) t3 i (free_row h3.free) ∙ ap (λ (x : List Row). set x i Free) rows
+  module _ (rows : rows_of t3 ≡ rows_of t) (linked : (w : Way) → LinkedWay w (set (rows_of t) i None) t3 h3) (others : (j : ℕ) → (j ≡ i → ⊥) → j < length (rows_of t) → get_or (rows_of t) j None ≡ None → get_or (links_of ByLabel t3) j 0 ≡ get_or (links_of ByLabel t) j 0) (count : h3.count ≡ h.count) (free : h3.free ≡ h.free) where
+    left_rows : rows_of (set t3 i (free_row h3.free)) ≡ set (rows_of t) i None
+    left_rows = map-set (λ r. r.row) t3 i (free_row h3.free) ∙ ap (λ (x : List Row). set x i None) rows
 
     pub removed_pile : pile_of (rows_of (set t3 i (free_row h3.free))) ≡ after_take l (pile_of (rows_of t))
     removed_pile = ap pile_of left_rows ∙ taken.takes
 
-    left-count : h3.count - 1 ≡ length (pairs_of (set (rows_of t) i Free))
+    left-count : h3.count - 1 ≡ length (pairs_of (set (rows_of t) i None))
     left-count =
         let u = used-freed (rows_of t) i l f e in
         let k = count-is (rows_of t) c.apart in
-        let m = count-is (set (rows_of t) i Free) taken.takes_apart in
+        let m = count-is (set (rows_of t) i None) taken.takes_apart in
         let n = c.counted in
         omega arith
 
     three-length : length t3 ≡ length t
     three-length = sym (rows-length t3) ∙ ap length rows ∙ rows-length t
 
-    left-links : (j : ℕ) → (j ≡ i → ⊥) → j < length (rows_of t) → get_or (rows_of t) j Free ≡ Free → get_or (links_of ByLabel (set t3 i (free_row h3.free))) j 0 ≡ get_or (links_of ByLabel t) j 0
+    left-links : (j : ℕ) → (j ≡ i → ⊥) → j < length (rows_of t) → get_or (rows_of t) j None ≡ None → get_or (links_of ByLabel (set t3 i (free_row h3.free))) j 0 ≡ get_or (links_of ByLabel t) j 0
     left-links j n b z = ap (λ m. get_or m j 0) (freed-links ByLabel t3 i h3.free) ∙ get_or-set_other (links_of ByLabel t3) i j h3.free 0 n ∙ others j n b z
 
-    left-spare : frees (set (rows_of t) i Free) (links_of ByLabel (set t3 i (free_row h3.free))) i (length t - (h3.count - 1)) ≡ true
+    left-spare : frees (set (rows_of t) i None) (links_of ByLabel (set t3 i (free_row h3.free))) i (length t - (h3.count - 1)) ≡ true
     left-spare =
         let b = held-within in
         let q = held-count in
@@ -172,7 +226,7 @@ module _ (t t3 : List ChainRow) (h h3 : Heads) (i l : ℕ) (f : Fact) (c : Chain
 
     left-linked : (w : Way) (g : Heads) → heads_of w g ≡ heads_of w h3 → LinkedWay w (rows_of (set t3 i (free_row h3.free))) (set t3 i (free_row h3.free)) g
     left-linked w g s =
-        let k = link-free (chain_at w) (set (rows_of t) i Free) (links_of w t3) (heads_of w h3) i (new_link w h3.free) (linked w) (get_or-set_same (rows_of t) i Free Free (used-within (rows_of t) i l f e)) in
+        let k = link-free (chain_at w) (set (rows_of t) i None) (links_of w t3) (heads_of w h3) i (new_link w h3.free) (linked w) (get_or-set_same (rows_of t) i None None (used-within (rows_of t) i l f e)) in
         rw (left_rows, freed-links w t3 i h3.free, s) k
 
     pub removed : (g : Heads) → ((w : Way) → heads_of w g ≡ heads_of w h3) → g.free ≡ i → g.count ≡ h3.count - 1 → Chained (set t3 i (free_row h3.free)) g

@@ -1,13 +1,11 @@
 -- A table whose rows are all free.
-use Rattle.std.proofs.Common.{◌≡◌, ℕ, zero, suc, ◌+◌, ◌-◌, ◌<◌, ◌≤◌, true, List, [], length, get_or, replicate, Ok, refl, sym, ap, ◌∙◌, arith}
+use Rattle.std.proofs.Common.{◌≡◌, ℕ, zero, suc, ◌+◌, ◌-◌, ◌<◌, ◌≤◌, true, List, [], length, get_or, replicate, Ok, refl, sym, ap, ◌∙◌, arith, Some, None}
 use Rattle.std.proofs.lemmas.Bool.{le-ltb}
 use Rattle.std.proofs.lemmas.Bool.Decides.{nat_tests}
 use Rattle.std.proofs.lemmas.List.{get_or-replicate, length-replicate}
 use Rattle.stores.specs.Store.{Pair}
 use Rattle.stores.specs.Piles.{sound, empty_pile}
-use Rattle.stores.specs.Table.{pairs_of, pile_of, distinct, table_answer}
-use Rattle.stores.specs.declared.row_types.Row.{Row}
-use Rattle.stores.specs.declared.row_types.Row.TheVariants.{Free, Used}
+use Rattle.stores.specs.Table.{Row, pairs_of, pile_of, distinct, table_answer}
 use Rattle.stores.proofs.Tables.{none-used}
 use Rattle.chains.specs.Links.{Linked, frees}
 use Rattle.chains.specs.Rows.{rows_of, links_of, chain_at, Chained}
@@ -23,16 +21,16 @@ use Rattle.chains.proofs.Spare.{frees-more}
 abbrev pub no_heads : Heads
 no_heads = record { by_label = replicate 64 1024; by_kind = replicate 64 1024; by_word = replicate 64 1024; free = 0; count = 0 }
 
-none-linked : (key : Pair → ℕ) (R : List Row) (L : List ℕ) → pairs_of R ≡ [] → length R ≤ 1024 → ((i : ℕ) → i < length R → get_or R i Free ≡ Free) → Linked key R L (replicate 64 1024)
+none-linked : (key : Pair → ℕ) (R : List Row) (L : List ℕ) → pairs_of R ≡ [] → length R ≤ 1024 → ((i : ℕ) → i < length R → get_or R i None ≡ None) → Linked key R L (replicate 64 1024)
 none-linked key R L e h a =
     record {
       sized = length-replicate {A = ℕ} 64 1024;
       first = λ c s. rw (get_or-replicate {A = ℕ} 64 c 1024 0 s, e) (let z = le-ltb 1024 (length R) h in rw z refl);
-      later = λ i l f s. let z : Free ≡ Used l f = sym (a i (used-within R i l f s)) ∙ s in let v : ◌≡◌ {A = ℕ} 0 1 = cc in absurd (omega arith);
+      later = λ i l f s. let z : ◌≡◌ {A = Row} None (Some (l, f)) = sym (a i (used-within R i l f s)) ∙ s in let v : ◌≡◌ {A = ℕ} 0 1 = cc in absurd (omega arith);
     }
 
 module _ (t : List ChainRow) (a : AllFree t) where
-  all-free : (i : ℕ) → i < length (rows_of t) → get_or (rows_of t) i Free ≡ Free
+  all-free : (i : ℕ) → i < length (rows_of t) → get_or (rows_of t) i None ≡ None
   all-free i h = let n = rows-length t in let k : i < length t = omega arith in row-at t i (free_row 0) k ∙ ap (λ r. r.row) (a.each i k)
 
   all-spare : (n i : ℕ) → i + n ≡ length t → frees (rows_of t) (links_of ByLabel t) i n ≡ true

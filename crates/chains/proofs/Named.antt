@@ -4,88 +4,94 @@ use Rattle.std.proofs.lemmas.Bool.{cases_eq, and_parts, false≢true}
 use Rattle.std.proofs.lemmas.Bool.Decides.{nat_tests}
 use Rattle.facts.specs.declared.fact_types.Fact.{Fact}
 use Rattle.stores.specs.Lists.{all, rises}
-use Rattle.stores.specs.Store.{Pair, labels, read}
+use Rattle.stores.specs.Store.{Pair, label, fact, labels, read}
 use Rattle.stores.specs.Piles.{sound_pair, sound}
-use Rattle.stores.specs.Table.{pairs_of, pile_of, absent, distinct}
-use Rattle.stores.specs.declared.row_types.Row.{Row}
-use Rattle.stores.specs.declared.row_types.Row.TheVariants.{Free, Used}
+use Rattle.stores.specs.Table.{Row, pairs_of, pile_of, absent, distinct}
 use Rattle.stores.proofs.Pairs.{read-placed}
 use Rattle.chains.specs.Links.{next_in, has_label, points}
 use Rattle.chains.proofs.Nexts.{passes_at, beyond, at_most, is_it, next-passes, next-member}
 
+-- equal rows have equal pairs
+abbrev or_blank : Pair → Row → Pair
+or_blank p None = p
+or_blank p (Some q) = q
+
+pub one_pair : (l m : ℕ) (f g : Fact) → ◌≡◌ {A = Row} (Some (l, f)) (Some (m, g)) → (l ≡ m) × (f ≡ g)
+one_pair l m f g e = (ap (λ r. label (or_blank (l, f) r)) e, ap (λ r. fact (or_blank (l, f) r)) e)
+
 -- a row that has a pair is within the table
-pub used-within : (t : List Row) (i l : ℕ) (f : Fact) → get_or t i Free ≡ Used l f → i < length t
+pub used-within : (t : List Row) (i l : ℕ) (f : Fact) → get_or t i None ≡ Some (l, f) → i < length t
 used-within [] zero l f e = let z : ◌≡◌ {A = ℕ} 0 1 = cc in absurd (omega arith)
 used-within [] (suc i) l f e = let z : ◌≡◌ {A = ℕ} 0 1 = cc in absurd (omega arith)
 used-within (r ∷ t) zero l f e = omega arith
 used-within (r ∷ t) (suc i) l f e = let ih = used-within t i l f e in omega arith
 
-used-absent : (t : List Row) (i l : ℕ) (f : Fact) → get_or t i Free ≡ Used l f → absent l t ≡ false
+used-absent : (t : List Row) (i l : ℕ) (f : Fact) → get_or t i None ≡ Some (l, f) → absent l t ≡ false
 used-absent [] zero l f e = let z : ◌≡◌ {A = ℕ} 0 1 = cc in absurd (omega arith)
 used-absent [] (suc i) l f e = let z : ◌≡◌ {A = ℕ} 0 1 = cc in absurd (omega arith)
-used-absent (Free ∷ t) zero l f e = grind (arith, nat_tests)
-used-absent (Used m g ∷ t) zero l f e = grind (arith, nat_tests)
-used-absent (Free ∷ t) (suc i) l f e = used-absent t i l f e
-used-absent (Used m g ∷ t) (suc i) l f e = let ih = used-absent t i l f e in grind (arith, nat_tests)
+used-absent (None ∷ t) zero l f e = grind (arith, nat_tests)
+used-absent (Some (m, g) ∷ t) zero l f e = grind (arith, nat_tests)
+used-absent (None ∷ t) (suc i) l f e = used-absent t i l f e
+used-absent (Some (m, g) ∷ t) (suc i) l f e = let ih = used-absent t i l f e in grind (arith, nat_tests)
 
-pub used-read : (t : List Row) (i l : ℕ) (f : Fact) → distinct t ≡ true → get_or t i Free ≡ Used l f → read l (pairs_of t) ≡ Some f
+pub used-read : (t : List Row) (i l : ℕ) (f : Fact) → distinct t ≡ true → get_or t i None ≡ Some (l, f) → read l (pairs_of t) ≡ Some f
 used-read [] i l f d e = let w = used-within [] i l f e in absurd (omega arith)
-used-read (Free ∷ t) zero l f d e = let z : ◌≡◌ {A = ℕ} 0 1 = cc in absurd (omega arith)
-used-read (Used m g ∷ t) zero l f d e = let r = read-placed l m g (pairs_of t) in grind (arith, nat_tests)
-used-read (Free ∷ t) (suc i) l f d e = used-read t i l f d e
-used-read (Used m g ∷ t) (suc i) l f d e =
+used-read (None ∷ t) zero l f d e = let z : ◌≡◌ {A = ℕ} 0 1 = cc in absurd (omega arith)
+used-read (Some (m, g) ∷ t) zero l f d e = let r = read-placed l m g (pairs_of t) in grind (arith, nat_tests)
+used-read (None ∷ t) (suc i) l f d e = used-read t i l f d e
+used-read (Some (m, g) ∷ t) (suc i) l f d e =
     let ih = used-read t i l f (and_parts (absent m t) (distinct t) d).1 e in
     let a = used-absent t i l f e in
     let r = read-placed l m g (pairs_of t) in
     grind (arith, nat_tests)
 
 -- a label has one row
-pub one-row : (t : List Row) (i j l : ℕ) (f g : Fact) → distinct t ≡ true → get_or t i Free ≡ Used l f → get_or t j Free ≡ Used l g → i ≡ j
+pub one-row : (t : List Row) (i j l : ℕ) (f g : Fact) → distinct t ≡ true → get_or t i None ≡ Some (l, f) → get_or t j None ≡ Some (l, g) → i ≡ j
 one-row [] i j l f g d e h = let w = used-within [] i l f e in absurd (omega arith)
 one-row (r ∷ t) zero zero l f g d e h = refl
-one-row (Free ∷ t) zero (suc j) l f g d e h = let z : ◌≡◌ {A = ℕ} 0 1 = cc in absurd (omega arith)
-one-row (Used m k ∷ t) zero (suc j) l f g d e h = let a = used-absent t j l g h in grind (arith, nat_tests)
-one-row (Free ∷ t) (suc i) zero l f g d e h = let z : ◌≡◌ {A = ℕ} 0 1 = cc in absurd (omega arith)
-one-row (Used m k ∷ t) (suc i) zero l f g d e h = let a = used-absent t i l f e in grind (arith, nat_tests)
-one-row (Free ∷ t) (suc i) (suc j) l f g d e h = ap suc (one-row t i j l f g d e h)
-one-row (Used m k ∷ t) (suc i) (suc j) l f g d e h = ap suc (one-row t i j l f g (and_parts (absent m t) (distinct t) d).1 e h)
+one-row (None ∷ t) zero (suc j) l f g d e h = let z : ◌≡◌ {A = ℕ} 0 1 = cc in absurd (omega arith)
+one-row (Some (m, k) ∷ t) zero (suc j) l f g d e h = let a = used-absent t j l g h in grind (arith, nat_tests)
+one-row (None ∷ t) (suc i) zero l f g d e h = let z : ◌≡◌ {A = ℕ} 0 1 = cc in absurd (omega arith)
+one-row (Some (m, k) ∷ t) (suc i) zero l f g d e h = let a = used-absent t i l f e in grind (arith, nat_tests)
+one-row (None ∷ t) (suc i) (suc j) l f g d e h = ap suc (one-row t i j l f g d e h)
+one-row (Some (m, k) ∷ t) (suc i) (suc j) l f g d e h = ap suc (one-row t i j l f g (and_parts (absent m t) (distinct t) d).1 e h)
 
 -- what a number names -----------------------------------------------------------------------------------------
 
 pub points-one : (t : List Row) (i : ℕ) (o q : Option ℕ) → points t i o ≡ true → points t i q ≡ true → o ≡ q
 points-one t i None None h k = refl
-points-one t i None (Some n) h k = go (get_or t i Free) refl
+points-one t i None (Some n) h k = go (get_or t i None) refl
   where
-    go : (r : Row) → get_or t i Free ≡ r → None ≡ Some n
-    go Free e = let z : has_label n (get_or t i Free) ≡ false = rw e refl in absurd (false≢true (sym z ∙ k))
-    go (Used m f) e = let w = used-within t i m f e in grind (arith, nat_tests)
-points-one t i (Some m) None h k = go (get_or t i Free) refl
+    go : (r : Row) → get_or t i None ≡ r → None ≡ Some n
+    go None e = let z : has_label n (get_or t i None) ≡ false = rw e refl in absurd (false≢true (sym z ∙ k))
+    go (Some (m, f)) e = let w = used-within t i m f e in grind (arith, nat_tests)
+points-one t i (Some m) None h k = go (get_or t i None) refl
   where
-    go : (r : Row) → get_or t i Free ≡ r → Some m ≡ None
-    go Free e = let z : has_label m (get_or t i Free) ≡ false = rw e refl in absurd (false≢true (sym z ∙ h))
-    go (Used n f) e = let w = used-within t i n f e in grind (arith, nat_tests)
-points-one t i (Some m) (Some n) h k = go (get_or t i Free) refl
+    go : (r : Row) → get_or t i None ≡ r → Some m ≡ None
+    go None e = let z : has_label m (get_or t i None) ≡ false = rw e refl in absurd (false≢true (sym z ∙ h))
+    go (Some (n, f)) e = let w = used-within t i n f e in grind (arith, nat_tests)
+points-one t i (Some m) (Some n) h k = go (get_or t i None) refl
   where
-    go : (r : Row) → get_or t i Free ≡ r → Some m ≡ Some n
-    go Free e = let z : has_label m (get_or t i Free) ≡ false = rw e refl in absurd (false≢true (sym z ∙ h))
-    go (Used l f) e = grind (arith, nat_tests)
+    go : (r : Row) → get_or t i None ≡ r → Some m ≡ Some n
+    go None e = let z : has_label m (get_or t i None) ≡ false = rw e refl in absurd (false≢true (sym z ∙ h))
+    go (Some (l, f)) e = grind (arith, nat_tests)
 
 -- after a free row has got a pair
-pub points_fill : (t : List Row) (i l k : ℕ) (f : Fact) (o : Option ℕ) → get_or t i Free ≡ Free → points t k o ≡ true → points (set t i (Used l f)) k o ≡ true
-points_fill t i l k f None e h = let n = length-set t i (Used l f) in grind (arith, nat_tests)
+pub points_fill : (t : List Row) (i l k : ℕ) (f : Fact) (o : Option ℕ) → get_or t i None ≡ None → points t k o ≡ true → points (set t i (Some (l, f))) k o ≡ true
+points_fill t i l k f None e h = let n = length-set t i (Some (l, f)) in grind (arith, nat_tests)
 points_fill t i l k f (Some m) e h =
     ⊎_elim
-    (λ q. let z : has_label m (get_or t k Free) ≡ false = ap (λ x. has_label m (get_or t x Free)) q ∙ ap (has_label m) e in absurd (false≢true (sym z ∙ h)))
-    (λ q. rw (get_or-set_other t i k (Used l f) Free q) h)
+    (λ q. let z : has_label m (get_or t k None) ≡ false = ap (λ x. has_label m (get_or t x None)) q ∙ ap (has_label m) e in absurd (false≢true (sym z ∙ h)))
+    (λ q. rw (get_or-set_other t i k (Some (l, f)) None q) h)
     (cases_eq k i)
 
 -- after a row is freed whose label is not the one that is named
-pub points-free : (t : List Row) (i l k : ℕ) (f : Fact) (o : Option ℕ) → get_or t i Free ≡ Used l f → is_it l o ≡ false → points t k o ≡ true → points (set t i Free) k o ≡ true
-points-free t i l k f None e n h = let s = length-set t i Free in grind (arith, nat_tests)
+pub points-free : (t : List Row) (i l k : ℕ) (f : Fact) (o : Option ℕ) → get_or t i None ≡ Some (l, f) → is_it l o ≡ false → points t k o ≡ true → points (set t i None) k o ≡ true
+points-free t i l k f None e n h = let s = length-set t i None in grind (arith, nat_tests)
 points-free t i l k f (Some m) e n h =
     ⊎_elim
-    (λ q. let z : has_label m (get_or t k Free) ≡ eqb l m = ap (λ x. has_label m (get_or t x Free)) q ∙ ap (has_label m) e in grind (arith, nat_tests))
-    (λ q. rw (get_or-set_other t i k Free Free q) h)
+    (λ q. let z : has_label m (get_or t k None) ≡ eqb l m = ap (λ x. has_label m (get_or t x None)) q ∙ ap (has_label m) e in grind (arith, nat_tests))
+    (λ q. rw (get_or-set_other t i k None None q) h)
     (cases_eq k i)
 
 -- a label of a chain, or 0, from which a chain begins
@@ -100,7 +106,7 @@ pub owed-pairs : (t : List Row) → sound (pile_of t) ≡ true → all sound_pai
 owed-pairs t o = grind (arith, nat_tests)
 
 -- labels begin at 1
-pub used-sound : (t : List Row) (i l : ℕ) (f : Fact) → distinct t ≡ true → sound (pile_of t) ≡ true → get_or t i Free ≡ Used l f → sound_pair (l, f) ≡ true
+pub used-sound : (t : List Row) (i l : ℕ) (f : Fact) → distinct t ≡ true → sound (pile_of t) ≡ true → get_or t i None ≡ Some (l, f) → sound_pair (l, f) ≡ true
 used-sound t i l f d o e = all-read sound_pair l f (pairs_of t) (owed-pairs t o) (used-read t i l f d e)
 
 -- two labels before a third: nothing of the chain stands between one of them and the third, so the other is the first of the two

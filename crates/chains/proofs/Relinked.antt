@@ -7,34 +7,32 @@ use Rattle.facts.specs.declared.fact_types.Fact.{Fact}
 use Rattle.stores.specs.Lists.{rises}
 use Rattle.stores.specs.Store.{Pair, labels, read, placed, taken_out}
 use Rattle.stores.specs.Piles.{sound}
-use Rattle.stores.specs.Table.{pairs_of, pile_of, absent, distinct}
-use Rattle.stores.specs.declared.row_types.Row.{Row}
-use Rattle.stores.specs.declared.row_types.Row.TheVariants.{Free, Used}
+use Rattle.stores.specs.Table.{Row, pairs_of, pile_of, absent, distinct}
 use Rattle.stores.proofs.Pairs.{least}
 use Rattle.stores.proofs.Tables.{rises-pairs, absent-read, pairs-put, pairs-take}
 use Rattle.chains.specs.Links.{next_in, on_chain, points, Linked, up_to, Place}
 use Rattle.chains.specs.Acts.{label_in}
 use Rattle.chains.proofs.Nexts.{passes_at, beyond, at_most, is_it, next-passes, next-member, next-placed, next-taken}
-use Rattle.chains.proofs.Named.{used-within, used-read, one-row, points-one, points_fill, points-free, holds, used-sound, not-place, same-place}
+use Rattle.chains.proofs.Named.{one_pair, used-within, used-read, one-row, points-one, points_fill, points-free, holds, used-sound, not-place, same-place}
 
 -- where a place comes from: a row of the chain, or its head
 pub record Source (key : Pair → ℕ) (R : List Row) (L H : List ℕ) (b a before at m : ℕ) : Type 0 where
   pub holder : holds (on_chain key b) m (pairs_of R) ≡ true
   pub below : m ≤ a
   pub same : next_in (on_chain key b) m (pairs_of R) ≡ next_in (on_chain key b) a (pairs_of R)
-  pub row : before < length R → (g : Fact) × (get_or R before Free ≡ Used m g) × (key (m, g) ≡ b) × (get_or L before 0 ≡ at) × (1 ≤ m)
+  pub row : before < length R → (g : Fact) × (get_or R before None ≡ Some (m, g)) × (key (m, g) ≡ b) × (get_or L before 0 ≡ at) × (1 ≤ m)
   pub head : length R ≤ before → (m ≡ 0) × (get_or H b 0 ≡ at)
 
-source-row : (key : Pair → ℕ) (R : List Row) (L H : List ℕ) (b a before at : ℕ) → distinct R ≡ true → sound (pile_of R) ≡ true → Linked key R L H → Place key R L H b a before at → before < length R → (r : Row) → get_or R before Free ≡ r → Source key R L H b a before at (label_in r)
-source-row key R L H b a before at d o k p h Free e =
+source-row : (key : Pair → ℕ) (R : List Row) (L H : List ℕ) (b a before at : ℕ) → distinct R ≡ true → sound (pile_of R) ≡ true → Linked key R L H → Place key R L H b a before at → before < length R → (r : Row) → get_or R before None ≡ r → Source key R L H b a before at (label_in r)
+source-row key R L H b a before at d o k p h None e =
     let t = lt-ltb before (length R) h in
     let z = p.from in
-    let y : up_to key b a (get_or R before Free) ≡ false = ap (up_to key b a) e in
+    let y : up_to key b a (get_or R before None) ≡ false = ap (up_to key b a) e in
     absurd (false≢true (grind (arith, nat_tests)))
-source-row key R L H b a before at d o k p h (Used m g) e =
+source-row key R L H b a before at d o k p h (Some (m, g)) e =
     let t = lt-ltb before (length R) h in
     let z = p.from in
-    let y : up_to key b a (get_or R before Free) ≡ (eqb (key (m, g)) b && leb m a) = ap (up_to key b a) e in
+    let y : up_to key b a (get_or R before None) ≡ (eqb (key (m, g)) b && leb m a) = ap (up_to key b a) e in
     let q : key (m, g) ≡ b = grind (arith, nat_tests) in
     let w : m ≤ a = grind (arith, nat_tests) in
     let v : get_or L before 0 ≡ at = grind (arith, nat_tests) in
@@ -63,11 +61,11 @@ source-head key R L H b a before at k p s h =
       head = λ _. (refl, v);
     }
 
-pub source : (key : Pair → ℕ) (R : List Row) (L H : List ℕ) (b a before at : ℕ) → distinct R ≡ true → sound (pile_of R) ≡ true → Linked key R L H → Place key R L H b a before at → b < 64 → Source key R L H b a before at (label_in (get_or R before Free))
+pub source : (key : Pair → ℕ) (R : List Row) (L H : List ℕ) (b a before at : ℕ) → distinct R ≡ true → sound (pile_of R) ≡ true → Linked key R L H → Place key R L H b a before at → b < 64 → Source key R L H b a before at (label_in (get_or R before None))
 source key R L H b a before at d o k p s =
     ⊎_elim
-    (λ h. source-row key R L H b a before at d o k p h (get_or R before Free) refl)
-    (λ h. subst (λ (r : Row). Source key R L H b a before at (label_in r)) (sym (get_or_past R before Free h)) (source-head key R L H b a before at k p s h))
+    (λ h. source-row key R L H b a before at d o k p h (get_or R before None) refl)
+    (λ h. subst (λ (r : Row). Source key R L H b a before at (label_in r)) (sym (get_or_past R before None h)) (source-head key R L H b a before at k p s h))
     (cases_lt before (length R))
 
 -- a row put on its chain -----------------------------------------------------------------------------------------
@@ -184,38 +182,38 @@ headed-length R H b before i =
 
 module _ (key : Pair → ℕ) (R : List Row) (L H : List ℕ) (d : distinct R ≡ true) (o : sound (pile_of R) ≡ true) (k : Linked key R L H) (links : length L ≡ length R) (before at l i : ℕ) (f : Fact) (small : key (l, f) < 64) (one : 1 ≤ l) where
   -- a free row gets the pair
-  module _ (p : Place key R L H (key (l, f)) l before at) (e : get_or R i Free ≡ Free) (h : i < length R) (a : absent l R ≡ true) where
+  module _ (p : Place key R L H (key (l, f)) l before at) (e : get_or R i None ≡ None) (h : i < length R) (a : absent l R ≡ true) where
     missing : read l (pairs_of R) ≡ None
     missing = absent-read l R a
 
-    from : Source key R L H (key (l, f)) l before at (label_in (get_or R before Free))
+    from : Source key R L H (key (l, f)) l before at (label_in (get_or R before None))
     from = source key R L H (key (l, f)) l before at d o k p small
 
-    pairs : pairs_of (set R i (Used l f)) ≡ placed l f (pairs_of R)
+    pairs : pairs_of (set R i (Some (l, f))) ≡ placed l f (pairs_of R)
     pairs = pairs-put R i l f d h (rw e a)
 
     -- the label of the row before, or 0
     abbrev prior : ℕ
-    prior = label_in (get_or R before Free)
+    prior = label_in (get_or R before None)
 
     apart-rows : before < length R → (before ≡ i → ⊥)
-    apart-rows s q = let r = from.row s in let z : Used prior r.0 ≡ Free = sym r.1 ∙ ap (λ x. get_or R x Free) q ∙ e in let y : ◌≡◌ {A = ℕ} 0 1 = cc in absurd (omega arith)
+    apart-rows s q = let r = from.row s in let z : ◌≡◌ {A = Row} (Some (prior, r.0)) None = sym r.1 ∙ ap (λ x. get_or R x None) q ∙ e in let y : ◌≡◌ {A = ℕ} 0 1 = cc in absurd (omega arith)
 
-    itself : points (set R i (Used l f)) i (Some l) ≡ true
-    itself = rw (get_or-set_same R i (Used l f) Free h) (eq-eqb l l refl)
+    itself : points (set R i (Some (l, f))) i (Some l) ≡ true
+    itself = rw (get_or-set_same R i (Some (l, f)) None h) (eq-eqb l l refl)
 
-    here : points (set R i (Used l f)) i (next_in (on_chain key (key (l, f))) prior (pairs_of (set R i (Used l f)))) ≡ true
-    here = rw (pairs, fill_here key (pairs_of R) l (label_in (get_or R before Free)) f (rises-pairs R) missing one from.holder from.below from.same) itself
+    here : points (set R i (Some (l, f))) i (next_in (on_chain key (key (l, f))) prior (pairs_of (set R i (Some (l, f))))) ≡ true
+    here = rw (pairs, fill_here key (pairs_of R) l (label_in (get_or R before None)) f (rises-pairs R) missing one from.holder from.below from.same) itself
 
-    other : (c m j : ℕ) → holds (on_chain key c) m (pairs_of R) ≡ true → (c ≡ key (l, f) → m ≡ prior → ⊥) → points R j (next_in (on_chain key c) m (pairs_of R)) ≡ true → points (set R i (Used l f)) j (next_in (on_chain key c) m (pairs_of (set R i (Used l f)))) ≡ true
+    other : (c m j : ℕ) → holds (on_chain key c) m (pairs_of R) ≡ true → (c ≡ key (l, f) → m ≡ prior → ⊥) → points R j (next_in (on_chain key c) m (pairs_of R)) ≡ true → points (set R i (Some (l, f))) j (next_in (on_chain key c) m (pairs_of (set R i (Some (l, f))))) ≡ true
     other c m j u s q =
-        rw (pairs, fill_other key (pairs_of R) l m (label_in (get_or R before Free)) c f (rises-pairs R) missing one from.holder from.below from.same u s)
+        rw (pairs, fill_other key (pairs_of R) l m (label_in (get_or R before None)) c f (rises-pairs R) missing one from.holder from.below from.same u s)
         (points_fill R i l j f (next_in (on_chain key c) m (pairs_of R)) e q)
 
-    first-filled : (c : ℕ) → c < 64 → points (set R i (Used l f)) (get_or (headed R H (key (l, f)) before i) c 0) (next_in (on_chain key c) 0 (pairs_of (set R i (Used l f)))) ≡ true
+    first-filled : (c : ℕ) → c < 64 → points (set R i (Some (l, f))) (get_or (headed R H (key (l, f)) before i) c 0) (next_in (on_chain key c) 0 (pairs_of (set R i (Some (l, f))))) ≡ true
     first-filled c w = ⊎_elim (λ q. at_head q) (λ q. rw (headed-other R H (key (l, f)) before i c q) (other c 0 (get_or H c 0) refl (λ x _. q x) (k.first c w))) (cases_eq c (key (l, f)))
       where
-        at_head : c ≡ key (l, f) → points (set R i (Used l f)) (get_or (headed R H (key (l, f)) before i) c 0) (next_in (on_chain key c) 0 (pairs_of (set R i (Used l f)))) ≡ true
+        at_head : c ≡ key (l, f) → points (set R i (Some (l, f))) (get_or (headed R H (key (l, f)) before i) c 0) (next_in (on_chain key c) 0 (pairs_of (set R i (Some (l, f))))) ≡ true
         at_head q =
             ⊎_elim
             (λ s. let r = from.row s in rw (headed-same R H (key (l, f)) before i s) (other c 0 (get_or H c 0) refl (λ _ z. let y = r.4 in absurd (omega arith)) (k.first c w)))
@@ -223,93 +221,95 @@ module _ (key : Pair → ℕ) (R : List Row) (L H : List ℕ) (d : distinct R �
             let z = from.head s in
             let n = k.sized in
             let b : key (l, f) < length H = omega arith in
-            rw (q, headed-new R H (key (l, f)) before i s, get_or-set_same H (key (l, f)) i 0 b) (subst (λ (x : ℕ). points (set R i (Used l f)) i (next_in (on_chain key (key (l, f))) x (pairs_of (set R i (Used l f)))) ≡ true) z.0 here))
+            rw (q, headed-new R H (key (l, f)) before i s, get_or-set_same H (key (l, f)) i 0 b) (subst (λ (x : ℕ). points (set R i (Some (l, f))) i (next_in (on_chain key (key (l, f))) x (pairs_of (set R i (Some (l, f))))) ≡ true) z.0 here))
             (cases_lt before (length R))
 
-    later-filled : (j m : ℕ) (g : Fact) → get_or (set R i (Used l f)) j Free ≡ Used m g → points (set R i (Used l f)) (get_or (set (set L i at) before i) j 0) (next_in (on_chain key (key (m, g))) m (pairs_of (set R i (Used l f)))) ≡ true
+    later-filled : (j m : ℕ) (g : Fact) → get_or (set R i (Some (l, f))) j None ≡ Some (m, g) → points (set R i (Some (l, f))) (get_or (set (set L i at) before i) j 0) (next_in (on_chain key (key (m, g))) m (pairs_of (set R i (Some (l, f))))) ≡ true
     later-filled j m g y = ⊎_elim (λ q. new q) (λ q. old q) (cases_eq j i)
       where
-        new : j ≡ i → points (set R i (Used l f)) (get_or (set (set L i at) before i) j 0) (next_in (on_chain key (key (m, g))) m (pairs_of (set R i (Used l f)))) ≡ true
+        new : j ≡ i → points (set R i (Some (l, f))) (get_or (set (set L i at) before i) j 0) (next_in (on_chain key (key (m, g))) m (pairs_of (set R i (Some (l, f))))) ≡ true
         new q =
-            let x : Used l f ≡ Used m g = sym (get_or-set_same R i (Used l f) Free h) ∙ ap (λ n. get_or (set R i (Used l f)) n Free) (sym q) ∙ y in
-            let u : l ≡ m = cc in
-            let v : f ≡ g = cc in
+            let x : ◌≡◌ {A = Row} (Some (l, f)) (Some (m, g)) = sym (get_or-set_same R i (Some (l, f)) None h) ∙ ap (λ n. get_or (set R i (Some (l, f))) n None) (sym q) ∙ y in
+            let p' = one_pair l m f g x in
+            let u = p'.0 in
+            let v = p'.1 in
             let w : points R at (next_in (on_chain key (key (l, f))) l (pairs_of R)) ≡ true = p.next in
             let s : next_in (on_chain key (key (l, f))) l (placed l f (pairs_of R)) ≡ next_in (on_chain key (key (l, f))) l (pairs_of R) = next-placed (on_chain key (key (l, f))) l l f (pairs_of R) (rises-pairs R) missing ∙ rw (le-ltb l l (omega arith)) refl in
             let t : get_or (set (set L i at) before i) i 0 ≡ at = ⊎_elim (λ z. get_or-set_other (set L i at) before i i 0 (λ n. apart-rows z (sym n)) ∙ get_or-set_same L i at 0 (omega arith)) (λ z. get_or-set_other (set L i at) before i i 0 (λ n. absurd (omega arith)) ∙ get_or-set_same L i at 0 (omega arith)) (cases_lt before (length R)) in
             rw (q, t, ← u, ← v, pairs, s) (points_fill R i l at f (next_in (on_chain key (key (l, f))) l (pairs_of R)) e w)
 
-        old : (j ≡ i → ⊥) → points (set R i (Used l f)) (get_or (set (set L i at) before i) j 0) (next_in (on_chain key (key (m, g))) m (pairs_of (set R i (Used l f)))) ≡ true
+        old : (j ≡ i → ⊥) → points (set R i (Some (l, f))) (get_or (set (set L i at) before i) j 0) (next_in (on_chain key (key (m, g))) m (pairs_of (set R i (Some (l, f))))) ≡ true
         old q = ⊎_elim (λ z. linked z) (λ z. unlinked z) (cases_eq j before)
           where
-            had : get_or R j Free ≡ Used m g
-            had = sym (get_or-set_other R i j (Used l f) Free q) ∙ y
+            had : get_or R j None ≡ Some (m, g)
+            had = sym (get_or-set_other R i j (Some (l, f)) None q) ∙ y
 
-            linked : j ≡ before → points (set R i (Used l f)) (get_or (set (set L i at) before i) j 0) (next_in (on_chain key (key (m, g))) m (pairs_of (set R i (Used l f)))) ≡ true
+            linked : j ≡ before → points (set R i (Some (l, f))) (get_or (set (set L i at) before i) j 0) (next_in (on_chain key (key (m, g))) m (pairs_of (set R i (Some (l, f))))) ≡ true
             linked z =
                 let w = used-within R j m g had in
                 let s : before < length R = omega arith in
                 let r = from.row s in
-                let x : Used prior r.0 ≡ Used m g = sym r.1 ∙ ap (λ n. get_or R n Free) (sym z) ∙ had in
-                let u : prior ≡ m = cc in
-                let v : r.0 ≡ g = cc in
+                let x : ◌≡◌ {A = Row} (Some (prior, r.0)) (Some (m, g)) = sym r.1 ∙ ap (λ n. get_or R n None) (sym z) ∙ had in
+                let p' = one_pair prior m r.0 g x in
+                let u = p'.0 in
+                let v = p'.1 in
                 let n = length-set L i at in
                 let t : get_or (set (set L i at) before i) before 0 ≡ i = get_or-set_same (set L i at) before i 0 (omega arith) in
                 let c : key (m, g) ≡ key (l, f) = ap (λ n. key (n, g)) (sym u) ∙ ap (λ n. key (prior, n)) (sym v) ∙ r.2 in
                 rw (z, t, c, ← u) here
 
-            unlinked : (j ≡ before → ⊥) → points (set R i (Used l f)) (get_or (set (set L i at) before i) j 0) (next_in (on_chain key (key (m, g))) m (pairs_of (set R i (Used l f)))) ≡ true
+            unlinked : (j ≡ before → ⊥) → points (set R i (Some (l, f))) (get_or (set (set L i at) before i) j 0) (next_in (on_chain key (key (m, g))) m (pairs_of (set R i (Some (l, f))))) ≡ true
             unlinked z =
                 let r = used-read R j m g d had in
                 let s = eq-eqb (key (m, g)) (key (m, g)) refl in
                 let u : holds (on_chain key (key (m, g))) m (pairs_of R) ≡ true = rw (r, s) (grind (arith, nat_tests)) in
                 let b = used-sound R j m g d o had in
                 let n : 1 ≤ m = grind (arith, nat_tests) in
-                let w : key (m, g) ≡ key (l, f) → m ≡ prior → ⊥ = λ _ x. ⊎_elim (λ y. let v = from.row y in z (one-row R j before m g v.0 d had (v.1 ∙ ap (λ n. Used n v.0) (sym x)))) (λ y. let v = (from.head y).0 in absurd (omega arith)) (cases_lt before (length R)) in
+                let w : key (m, g) ≡ key (l, f) → m ≡ prior → ⊥ = λ _ x. ⊎_elim (λ y. let v = from.row y in z (one-row R j before m g v.0 d had (v.1 ∙ ap (λ n. Some (n, v.0)) (sym x)))) (λ y. let v = (from.head y).0 in absurd (omega arith)) (cases_lt before (length R)) in
                 let t : get_or (set (set L i at) before i) j 0 ≡ get_or L j 0 = get_or-set_other (set L i at) before j i 0 z ∙ get_or-set_other L i j at 0 q in
                 rw t (other (key (m, g)) m (get_or L j 0) u w (k.later j m g had))
 
-    pub filled : Linked key (set R i (Used l f)) (set (set L i at) before i) (headed R H (key (l, f)) before i)
+    pub filled : Linked key (set R i (Some (l, f))) (set (set L i at) before i) (headed R H (key (l, f)) before i)
     filled = record { sized = headed-length R H (key (l, f)) before i ∙ k.sized; first = first-filled; later = later-filled }
 
   -- a row is freed
-  module _ (p : Place key R L H (key (l, f)) (l - 1) before at) (e : get_or R i Free ≡ Used l f) where
+  module _ (p : Place key R L H (key (l, f)) (l - 1) before at) (e : get_or R i None ≡ Some (l, f)) where
     found : read l (pairs_of R) ≡ Some f
     found = used-read R i l f d e
 
     inside : i < length R
     inside = used-within R i l f e
 
-    origin : Source key R L H (key (l, f)) (l - 1) before at (label_in (get_or R before Free))
+    origin : Source key R L H (key (l, f)) (l - 1) before at (label_in (get_or R before None))
     origin = source key R L H (key (l, f)) (l - 1) before at d o k p small
 
-    less : pairs_of (set R i Free) ≡ taken_out l (pairs_of R)
+    less : pairs_of (set R i None) ≡ taken_out l (pairs_of R)
     less = pairs-take R i l d inside (rw e (eq-eqb l l refl))
 
     -- the label of the row before, or 0
     abbrev earlier : ℕ
-    earlier = label_in (get_or R before Free)
+    earlier = label_in (get_or R before None)
 
     leads : next_in (on_chain key (key (l, f))) earlier (pairs_of R) ≡ Some l
     leads =
         let s : passes_at (on_chain key (key (l, f))) l (read l (pairs_of R)) ≡ true = rw (found, eq-eqb (key (l, f)) (key (l, f)) refl) refl in
         origin.same ∙ freed-found (on_chain key (key (l, f))) (pairs_of R) l (rises-pairs R) s one
 
-    past : points (set R i Free) (get_or L i 0) (next_in (on_chain key (key (l, f))) earlier (pairs_of (set R i Free))) ≡ true
+    past : points (set R i None) (get_or L i 0) (next_in (on_chain key (key (l, f))) earlier (pairs_of (set R i None))) ≡ true
     past =
         rw (less, freed-here (on_chain key (key (l, f))) (pairs_of R) l earlier (rises-pairs R) leads)
         (points-free R i l (get_or L i 0) f (next_in (on_chain key (key (l, f))) l (pairs_of R)) e (freed-past (on_chain key (key (l, f))) (pairs_of R) l (rises-pairs R)) (k.later i l f e))
 
-    kept : (c m j : ℕ) → holds (on_chain key c) m (pairs_of R) ≡ true → (c ≡ key (l, f) → m ≡ earlier → ⊥) → points R j (next_in (on_chain key c) m (pairs_of R)) ≡ true → points (set R i Free) j (next_in (on_chain key c) m (pairs_of (set R i Free))) ≡ true
+    kept : (c m j : ℕ) → holds (on_chain key c) m (pairs_of R) ≡ true → (c ≡ key (l, f) → m ≡ earlier → ⊥) → points R j (next_in (on_chain key c) m (pairs_of R)) ≡ true → points (set R i None) j (next_in (on_chain key c) m (pairs_of (set R i None))) ≡ true
     kept c m j u s q =
         let z = freed-other key (pairs_of R) l m earlier c f (rises-pairs R) found origin.holder leads u s in
         let t : next_in (on_chain key c) m (taken_out l (pairs_of R)) ≡ next_in (on_chain key c) m (pairs_of R) = next-taken (on_chain key c) m l (pairs_of R) (rises-pairs R) ∙ rw z refl in
         rw (less, t) (points-free R i l j f (next_in (on_chain key c) m (pairs_of R)) e z q)
 
-    first-freed : (c : ℕ) → c < 64 → points (set R i Free) (get_or (headed R H (key (l, f)) before (get_or L i 0)) c 0) (next_in (on_chain key c) 0 (pairs_of (set R i Free))) ≡ true
+    first-freed : (c : ℕ) → c < 64 → points (set R i None) (get_or (headed R H (key (l, f)) before (get_or L i 0)) c 0) (next_in (on_chain key c) 0 (pairs_of (set R i None))) ≡ true
     first-freed c w = ⊎_elim (λ q. at_head q) (λ q. rw (headed-other R H (key (l, f)) before (get_or L i 0) c q) (kept c 0 (get_or H c 0) refl (λ x _. q x) (k.first c w))) (cases_eq c (key (l, f)))
       where
-        at_head : c ≡ key (l, f) → points (set R i Free) (get_or (headed R H (key (l, f)) before (get_or L i 0)) c 0) (next_in (on_chain key c) 0 (pairs_of (set R i Free))) ≡ true
+        at_head : c ≡ key (l, f) → points (set R i None) (get_or (headed R H (key (l, f)) before (get_or L i 0)) c 0) (next_in (on_chain key c) 0 (pairs_of (set R i None))) ≡ true
         at_head q =
             ⊎_elim
             (λ s. let r = origin.row s in rw (headed-same R H (key (l, f)) before (get_or L i 0) s) (kept c 0 (get_or H c 0) refl (λ _ z. let y = r.4 in absurd (omega arith)) (k.first c w)))
@@ -317,49 +317,50 @@ module _ (key : Pair → ℕ) (R : List Row) (L H : List ℕ) (d : distinct R �
             let z = origin.head s in
             let n = k.sized in
             let b : key (l, f) < length H = omega arith in
-            rw (q, headed-new R H (key (l, f)) before (get_or L i 0) s, get_or-set_same H (key (l, f)) (get_or L i 0) 0 b) (subst (λ (x : ℕ). points (set R i Free) (get_or L i 0) (next_in (on_chain key (key (l, f))) x (pairs_of (set R i Free))) ≡ true) z.0 past))
+            rw (q, headed-new R H (key (l, f)) before (get_or L i 0) s, get_or-set_same H (key (l, f)) (get_or L i 0) 0 b) (subst (λ (x : ℕ). points (set R i None) (get_or L i 0) (next_in (on_chain key (key (l, f))) x (pairs_of (set R i None))) ≡ true) z.0 past))
             (cases_lt before (length R))
 
-    later-freed : (j m : ℕ) (g : Fact) → get_or (set R i Free) j Free ≡ Used m g → points (set R i Free) (get_or (set L before (get_or L i 0)) j 0) (next_in (on_chain key (key (m, g))) m (pairs_of (set R i Free))) ≡ true
+    later-freed : (j m : ℕ) (g : Fact) → get_or (set R i None) j None ≡ Some (m, g) → points (set R i None) (get_or (set L before (get_or L i 0)) j 0) (next_in (on_chain key (key (m, g))) m (pairs_of (set R i None))) ≡ true
     later-freed j m g y = ⊎_elim (λ z. linked z) (λ z. unlinked z) (cases_eq j before)
       where
         other_row : j ≡ i → ⊥
-        other_row q = let x : Free ≡ Used m g = sym (get_or-set_same R i Free Free inside) ∙ ap (λ n. get_or (set R i Free) n Free) (sym q) ∙ y in let v : ◌≡◌ {A = ℕ} 0 1 = cc in absurd (omega arith)
+        other_row q = let x : ◌≡◌ {A = Row} None (Some (m, g)) = sym (get_or-set_same R i None None inside) ∙ ap (λ n. get_or (set R i None) n None) (sym q) ∙ y in let v : ◌≡◌ {A = ℕ} 0 1 = cc in absurd (omega arith)
 
-        had : get_or R j Free ≡ Used m g
-        had = sym (get_or-set_other R i j Free Free other_row) ∙ y
+        had : get_or R j None ≡ Some (m, g)
+        had = sym (get_or-set_other R i j None None other_row) ∙ y
 
-        linked : j ≡ before → points (set R i Free) (get_or (set L before (get_or L i 0)) j 0) (next_in (on_chain key (key (m, g))) m (pairs_of (set R i Free))) ≡ true
+        linked : j ≡ before → points (set R i None) (get_or (set L before (get_or L i 0)) j 0) (next_in (on_chain key (key (m, g))) m (pairs_of (set R i None))) ≡ true
         linked z =
             let w = used-within R j m g had in
             let s : before < length R = omega arith in
             let r = origin.row s in
-            let x : Used earlier r.0 ≡ Used m g = sym r.1 ∙ ap (λ n. get_or R n Free) (sym z) ∙ had in
-            let u : earlier ≡ m = cc in
-            let v : r.0 ≡ g = cc in
+            let x : ◌≡◌ {A = Row} (Some (earlier, r.0)) (Some (m, g)) = sym r.1 ∙ ap (λ n. get_or R n None) (sym z) ∙ had in
+            let p' = one_pair earlier m r.0 g x in
+            let u = p'.0 in
+            let v = p'.1 in
             let t : get_or (set L before (get_or L i 0)) before 0 ≡ get_or L i 0 = get_or-set_same L before (get_or L i 0) 0 (omega arith) in
             let c : key (m, g) ≡ key (l, f) = ap (λ n. key (n, g)) (sym u) ∙ ap (λ n. key (earlier, n)) (sym v) ∙ r.2 in
             rw (z, t, c, ← u) past
 
-        unlinked : (j ≡ before → ⊥) → points (set R i Free) (get_or (set L before (get_or L i 0)) j 0) (next_in (on_chain key (key (m, g))) m (pairs_of (set R i Free))) ≡ true
+        unlinked : (j ≡ before → ⊥) → points (set R i None) (get_or (set L before (get_or L i 0)) j 0) (next_in (on_chain key (key (m, g))) m (pairs_of (set R i None))) ≡ true
         unlinked z =
             let r = used-read R j m g d had in
             let s = eq-eqb (key (m, g)) (key (m, g)) refl in
             let u : holds (on_chain key (key (m, g))) m (pairs_of R) ≡ true = rw (r, s) (grind (arith, nat_tests)) in
             let b = used-sound R j m g d o had in
             let n : 1 ≤ m = grind (arith, nat_tests) in
-            let w : key (m, g) ≡ key (l, f) → m ≡ earlier → ⊥ = λ _ x. ⊎_elim (λ y. let v = origin.row y in z (one-row R j before m g v.0 d had (v.1 ∙ ap (λ n. Used n v.0) (sym x)))) (λ y. let v = (origin.head y).0 in absurd (omega arith)) (cases_lt before (length R)) in
+            let w : key (m, g) ≡ key (l, f) → m ≡ earlier → ⊥ = λ _ x. ⊎_elim (λ y. let v = origin.row y in z (one-row R j before m g v.0 d had (v.1 ∙ ap (λ n. Some (n, v.0)) (sym x)))) (λ y. let v = (origin.head y).0 in absurd (omega arith)) (cases_lt before (length R)) in
             let t : get_or (set L before (get_or L i 0)) j 0 ≡ get_or L j 0 = get_or-set_other L before j (get_or L i 0) 0 z in
             rw t (kept (key (m, g)) m (get_or L j 0) u w (k.later j m g had))
 
-    pub freed : Linked key (set R i Free) (set L before (get_or L i 0)) (headed R H (key (l, f)) before (get_or L i 0))
+    pub freed : Linked key (set R i None) (set L before (get_or L i 0)) (headed R H (key (l, f)) before (get_or L i 0))
     freed = record { sized = headed-length R H (key (l, f)) before (get_or L i 0) ∙ k.sized; first = first-freed; later = later-freed }
 
 -- the link of a free row does not matter
-pub link-free : (key : Pair → ℕ) (R : List Row) (L H : List ℕ) (i x : ℕ) → Linked key R L H → get_or R i Free ≡ Free → Linked key R (set L i x) H
+pub link-free : (key : Pair → ℕ) (R : List Row) (L H : List ℕ) (i x : ℕ) → Linked key R L H → get_or R i None ≡ None → Linked key R (set L i x) H
 link-free key R L H i x k e =
     record {
       sized = k.sized;
       first = k.first;
-      later = λ j m g y. let n : j ≡ i → ⊥ = (λ q. let z : Free ≡ Used m g = sym e ∙ ap (λ n. get_or R n Free) (sym q) ∙ y in let v : ◌≡◌ {A = ℕ} 0 1 = cc in absurd (omega arith)) in rw (get_or-set_other L i j x 0 n) (k.later j m g y);
+      later = λ j m g y. let n : j ≡ i → ⊥ = (λ q. let z : ◌≡◌ {A = Row} None (Some (m, g)) = sym e ∙ ap (λ n. get_or R n None) (sym q) ∙ y in let v : ◌≡◌ {A = ℕ} 0 1 = cc in absurd (omega arith)) in rw (get_or-set_other L i j x 0 n) (k.later j m g y);
     }

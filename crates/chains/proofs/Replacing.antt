@@ -5,10 +5,8 @@ use Rattle.std.proofs.lemmas.Bool.Decides.{nat_tests}
 use Rattle.facts.specs.declared.fact_types.Fact.{Fact}
 use Rattle.stores.specs.Store.{Pair, placed, sameℤ, of_kind_with}
 use Rattle.stores.specs.Piles.{sound_pair}
-use Rattle.stores.specs.Table.{pairs_of, pile_of, distinct}
+use Rattle.stores.specs.Table.{Row, pairs_of, pile_of, distinct}
 use Rattle.stores.specs.Scans.{RowAt}
-use Rattle.stores.specs.declared.row_types.Row.{Row}
-use Rattle.stores.specs.declared.row_types.Row.TheVariants.{Free, Used}
 use Rattle.stores.proofs.Pairs.{length-held}
 use Rattle.stores.proofs.Tables.{rises-pairs, pairs-put, row_at}
 use Rattle.chains.specs.Links.{next_in, on_chain, has_label, points, Linked}
@@ -19,7 +17,7 @@ use Rattle.chains.specs.declared.chain_types.Heads.{Heads}
 use Rattle.chains.specs.declared.chain_types.Way.{Way}
 use Rattle.chains.specs.declared.chain_types.Way.TheVariants.{ByLabel, ByKind, ByWord}
 use Rattle.chains.proofs.Nexts.{next_replaced}
-use Rattle.chains.proofs.Named.{used-within, used-read}
+use Rattle.chains.proofs.Named.{one_pair, used-within, used-read}
 use Rattle.chains.proofs.Tables.{blank}
 use Rattle.chains.proofs.Spare.{frees-used}
 use Rattle.chains.proofs.Changes.{filled-links, filled-rows}
@@ -34,51 +32,52 @@ same_chains ByWord l f g e =
     let q = and_parts (eqb g.kind f.kind) (sameℤ (get_or g.words 0 (pos 0)) (get_or f.words 0 (pos 0))) e in
     rw (eqb-true g.kind f.kind q.0, same-magnitude (get_or g.words 0 (pos 0)) (get_or f.words 0 (pos 0)) q.1) refl
 
-points-same : (R : List Row) (i k l : ℕ) (f g : Fact) (o : Option ℕ) → get_or R i Free ≡ Used l g → points R k o ≡ true → points (set R i (Used l f)) k o ≡ true
-points-same R i k l f g None e p = let n = length-set R i (Used l f) in grind (arith, nat_tests)
+points-same : (R : List Row) (i k l : ℕ) (f g : Fact) (o : Option ℕ) → get_or R i None ≡ Some (l, g) → points R k o ≡ true → points (set R i (Some (l, f))) k o ≡ true
+points-same R i k l f g None e p = let n = length-set R i (Some (l, f)) in grind (arith, nat_tests)
 points-same R i k l f g (Some m) e p =
     ⊎_elim
     (λ q.
     let w = used-within R i l g e in
-    let x : has_label m (get_or R k Free) ≡ eqb l m = ap (λ n. has_label m (get_or R n Free)) q ∙ ap (has_label m) e in
-    let y : has_label m (get_or (set R i (Used l f)) k Free) ≡ eqb l m = ap (λ n. has_label m (get_or (set R i (Used l f)) n Free)) q ∙ ap (has_label m) (get_or-set_same R i (Used l f) Free w) in
+    let x : has_label m (get_or R k None) ≡ eqb l m = ap (λ n. has_label m (get_or R n None)) q ∙ ap (has_label m) e in
+    let y : has_label m (get_or (set R i (Some (l, f))) k None) ≡ eqb l m = ap (λ n. has_label m (get_or (set R i (Some (l, f))) n None)) q ∙ ap (has_label m) (get_or-set_same R i (Some (l, f)) None w) in
     y ∙ sym x ∙ p)
-    (λ q. rw (get_or-set_other R i k (Used l f) Free q) p)
+    (λ q. rw (get_or-set_other R i k (Some (l, f)) None q) p)
     (cases_eq k i)
 
-linked-same : (key : Pair → ℕ) (R : List Row) (L H : List ℕ) (i l : ℕ) (f g : Fact) → distinct R ≡ true → Linked key R L H → get_or R i Free ≡ Used l g → key (l, f) ≡ key (l, g) → pairs_of (set R i (Used l f)) ≡ placed l f (pairs_of R) → Linked key (set R i (Used l f)) L H
+linked-same : (key : Pair → ℕ) (R : List Row) (L H : List ℕ) (i l : ℕ) (f g : Fact) → distinct R ≡ true → Linked key R L H → get_or R i None ≡ Some (l, g) → key (l, f) ≡ key (l, g) → pairs_of (set R i (Some (l, f))) ≡ placed l f (pairs_of R) → Linked key (set R i (Some (l, f))) L H
 linked-same key R L H i l f g d k e s p =
     record { sized = k.sized; first = λ c h. here c 0 (get_or H c 0) (k.first c h); later = later }
   where
-    here : (c m j : ℕ) → points R j (next_in (on_chain key c) m (pairs_of R)) ≡ true → points (set R i (Used l f)) j (next_in (on_chain key c) m (pairs_of (set R i (Used l f)))) ≡ true
+    here : (c m j : ℕ) → points R j (next_in (on_chain key c) m (pairs_of R)) ≡ true → points (set R i (Some (l, f))) j (next_in (on_chain key c) m (pairs_of (set R i (Some (l, f))))) ≡ true
     here c m j q =
         let t : on_chain key c (l, f) ≡ on_chain key c (l, g) = ap (λ n. eqb n c) s in
         rw (p, next_replaced (on_chain key c) m l f g (pairs_of R) (rises-pairs R) (used-read R i l g d e) t) (points-same R i j l f g (next_in (on_chain key c) m (pairs_of R)) e q)
 
-    later : (j m : ℕ) (x : Fact) → get_or (set R i (Used l f)) j Free ≡ Used m x → points (set R i (Used l f)) (get_or L j 0) (next_in (on_chain key (key (m, x))) m (pairs_of (set R i (Used l f)))) ≡ true
+    later : (j m : ℕ) (x : Fact) → get_or (set R i (Some (l, f))) j None ≡ Some (m, x) → points (set R i (Some (l, f))) (get_or L j 0) (next_in (on_chain key (key (m, x))) m (pairs_of (set R i (Some (l, f))))) ≡ true
     later j m x y =
         ⊎_elim
         (λ q.
-        let z : Used l f ≡ Used m x = sym (get_or-set_same R i (Used l f) Free (used-within R i l g e)) ∙ ap (λ n. get_or (set R i (Used l f)) n Free) (sym q) ∙ y in
-        let u : l ≡ m = cc in
-        let v : f ≡ x = cc in
+        let z : ◌≡◌ {A = Row} (Some (l, f)) (Some (m, x)) = sym (get_or-set_same R i (Some (l, f)) None (used-within R i l g e)) ∙ ap (λ n. get_or (set R i (Some (l, f))) n None) (sym q) ∙ y in
+        let p' = one_pair l m f x z in
+        let u = p'.0 in
+        let v = p'.1 in
         rw (q, ← u, ← v, s) (here (key (l, g)) l (get_or L i 0) (k.later i l g e)))
-        (λ q. here (key (m, x)) m (get_or L j 0) (k.later j m x (sym (get_or-set_other R i j (Used l f) Free q) ∙ y)))
+        (λ q. here (key (m, x)) m (get_or L j 0) (k.later j m x (sym (get_or-set_other R i j (Some (l, f)) None q) ∙ y)))
         (cases_eq j i)
 
-module _ (t : List ChainRow) (h : Heads) (i l : ℕ) (f g : Fact) (c : Chained t h) (e : get_or (rows_of t) i Free ≡ Used l g) (p : sound_pair (l, f) ≡ true) (s : of_kind_with f.kind (get_or f.words 0 (pos 0)) g ≡ true) where
+module _ (t : List ChainRow) (h : Heads) (i l : ℕ) (f g : Fact) (c : Chained t h) (e : get_or (rows_of t) i None ≡ Some (l, g)) (p : sound_pair (l, f) ≡ true) (s : of_kind_with f.kind (get_or f.words 0 (pos 0)) g ≡ true) where
   own-row : RowAt l (rows_of t) i
   own-row = row_at (rows_of t) i l c.apart c.kept (used-within (rows_of t) i l g e) (rw e (eq-eqb l l refl))
 
-  own-pairs : pairs_of (set (rows_of t) i (Used l f)) ≡ placed l f (pairs_of (rows_of t))
+  own-pairs : pairs_of (set (rows_of t) i (Some (l, f))) ≡ placed l f (pairs_of (rows_of t))
   own-pairs = pairs-put (rows_of t) i l f c.apart (used-within (rows_of t) i l g e) (rw e (eq-eqb l l refl))
 
-  own-count : length (pairs_of (set (rows_of t) i (Used l f))) ≡ length (pairs_of (rows_of t))
+  own-count : length (pairs_of (set (rows_of t) i (Some (l, f)))) ≡ length (pairs_of (rows_of t))
   own-count = ap length own-pairs ∙ length-held l f (pairs_of (rows_of t)) (rises-pairs (rows_of t)) (ap is_some (used-read (rows_of t) i l g c.apart e))
 
-  pub replaced_chained : Chained (set t i (record (get_or t i blank) { row = Used l f })) h
+  pub replaced_chained : Chained (set t i (record (get_or t i blank) { row = Some (l, f) })) h
   replaced_chained =
-      let n = length-set t i (record (get_or t i blank) { row = Used l f }) in
+      let n = length-set t i (record (get_or t i blank) { row = Some (l, f) }) in
       record {
         apart = rw (filled-rows t i l f) (own-row.puts_apart f);
         kept = rw (filled-rows t i l f) (own-row.puts_sound f p);
@@ -87,5 +86,5 @@ module _ (t : List ChainRow) (h : Heads) (i l : ℕ) (f g : Fact) (c : Chained t
         linked = λ w. rw (filled-rows t i l f, filled-links w t i l f) (linked-same (chain_at w) (rows_of t) (links_of w t) (heads_of w h) i l f g c.apart (c.linked w) e (same_chains w l f g s) own-pairs);
       }
 
-  pub replaced_rows : Replaces true l f (rows_of t) (rows_of (set t i (record (get_or t i blank) { row = Used l f })))
+  pub replaced_rows : Replaces true l f (rows_of t) (rows_of (set t i (record (get_or t i blank) { row = Some (l, f) })))
   replaced_rows = (ap is_some (used-read (rows_of t) i l g c.apart e), ap pile_of (filled-rows t i l f) ∙ own-row.puts f)

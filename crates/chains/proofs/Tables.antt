@@ -1,16 +1,15 @@
 -- The rows and the links of a table, as a row is read and written.
-use Rattle.std.proofs.Common.{◌≡◌, ℕ, zero, suc, ◌<◌, true, false, List, [], ◌∷◌, length, get_or, set, refl, sym, ap, ◌∙◌, arith}
+use Rattle.std.proofs.Common.{◌≡◌, ℕ, zero, suc, ◌<◌, true, false, List, [], ◌∷◌, length, get_or, set, refl, sym, ap, ◌∙◌, arith, None}
 use Rattle.std.proofs.lemmas.List.{map-set, length-map}
 use Rattle.std.proofs.lemmas.Bool.{false≢true}
-use Rattle.stores.specs.declared.row_types.Row.TheVariants.{Free}
-use Rattle.chains.specs.Rows.{rows_of, link, with_link, links_of, heads_of, with_head}
+use Rattle.chains.specs.Rows.{rows_of, link, with_link, links_of, heads_of, with_head, Walkable, Chained}
 use Rattle.chains.specs.Acts.{same_way}
 use Rattle.chains.specs.declared.chain_types.ChainRow.{ChainRow}
 use Rattle.chains.specs.declared.chain_types.Heads.{Heads}
 use Rattle.chains.specs.declared.chain_types.Way.{Way}
 use Rattle.chains.specs.declared.chain_types.Way.TheVariants.{ByLabel, ByKind, ByWord}
 
-pub row-at : (t : List ChainRow) (i : ℕ) (d : ChainRow) → i < length t → get_or (rows_of t) i Free ≡ (get_or t i d).row
+pub row-at : (t : List ChainRow) (i : ℕ) (d : ChainRow) → i < length t → get_or (rows_of t) i None ≡ (get_or t i d).row
 row-at [] i d h = absurd (omega arith)
 row-at (r ∷ t) zero d h = refl
 row-at (r ∷ t) (suc i) d h = row-at t i d (omega arith)
@@ -28,7 +27,7 @@ links-length w t = length-map t (link w) ∙ sym (rows-length t)
 
 -- what a row reads as beyond the table
 abbrev pub blank : ChainRow
-blank = record { row = Free; by_label = 0; by_kind = 0; by_word = 0 }
+blank = record { row = None; by_label = 0; by_kind = 0; by_word = 0 }
 
 -- a row written whose pair, or whose link, is the one that stood there
 pub rows_stay : (t : List ChainRow) (i : ℕ) (r : ChainRow) → r.row ≡ (get_or t i blank).row → rows_of (set t i r) ≡ rows_of t
@@ -104,3 +103,7 @@ pub heads_stay : (w : Way) (h : Heads) (i n : ℕ) → heads_of w (record h { fr
 heads_stay ByLabel h i n = refl
 heads_stay ByKind h i n = refl
 heads_stay ByWord h i n = refl
+
+-- the rows of a store can be walked each way
+pub walkable : (t : List ChainRow) (h : Heads) → Chained t h → (w : Way) → Walkable w t h
+walkable t h c w = record { apart = c.apart; kept = c.kept; linked = c.linked w }

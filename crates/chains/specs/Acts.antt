@@ -3,9 +3,7 @@ use Rattle.std.specs.Prelude.{◌≡◌, ℕ, ◌+◌, ◌<◌, Bool, true, fals
 use Rattle.facts.specs.declared.fact_types.Fact.{Fact}
 use Rattle.stores.specs.Store.{read, of_kind_with}
 use Rattle.stores.specs.Piles.{after_put}
-use Rattle.stores.specs.Table.{pairs_of, pile_of}
-use Rattle.stores.specs.declared.row_types.Row.{Row}
-use Rattle.stores.specs.declared.row_types.Row.TheVariants.{Free, Used}
+use Rattle.stores.specs.Table.{Row, pairs_of, pile_of}
 use Rattle.chains.specs.Rows.{rows_of, links_of, heads_of}
 use Rattle.chains.specs.declared.chain_types.ChainRow.{ChainRow}
 use Rattle.chains.specs.declared.chain_types.Heads.{Heads}
@@ -14,18 +12,13 @@ use Rattle.chains.specs.declared.chain_types.Way.TheVariants.{ByLabel, ByKind, B
 
 -- the label of a row, or 0
 abbrev pub label_in : Row → ℕ
-label_in Free = 0
-label_in (Used l f) = l
-
--- the label of a row, or none
-abbrev pub label_of_row : Row → Option ℕ
-label_of_row Free = None
-label_of_row (Used l f) = Some l
+label_in None = 0
+label_in (Some (l, f)) = l
 
 -- the label of a row whose fact has a kind and a first word, or none
 abbrev pub asked_label : ℕ → ℤ → Row → Option ℕ
-asked_label kind word Free = None
-asked_label kind word (Used l f) = cond (of_kind_with kind word f) (Some l) None
+asked_label kind word None = None
+asked_label kind word (Some (l, f)) = cond (of_kind_with kind word f) (Some l) None
 
 abbrev pub same_way : Way → Way → Bool
 same_way ByLabel ByLabel = true
@@ -35,7 +28,7 @@ same_way v w = false
 
 -- a row without a pair, whose link by label names another
 abbrev pub free_row : ℕ → ChainRow
-free_row i = record { row = Free; by_label = i; by_kind = 1024; by_word = 1024 }
+free_row i = record { row = None; by_label = i; by_kind = 1024; by_word = 1024 }
 
 -- each row is free and names the one behind it
 pub record AllFree (t : List ChainRow) : Type 0 where
@@ -44,7 +37,7 @@ pub record AllFree (t : List ChainRow) : Type 0 where
 -- the row of a label and its fact, or none where the label is not held
 abbrev pub Finds : ℕ → List Row → Option (ℕ × Fact) → Type 0
 Finds l rows None = read l (pairs_of rows) ≡ None
-Finds l rows (Some p) = slice_index_or rows p.0 Free ≡ Used l p.1
+Finds l rows (Some p) = slice_index_or rows p.0 None ≡ Some (l, p.1)
 
 -- what a change of one way's links leaves: the rows, the links and heads of the other ways, the links of the other free rows, and the
 -- first free row and the count
@@ -52,7 +45,7 @@ pub record Leaves (w : Way) (i : ℕ) (t u : List ChainRow) (h g : Heads) : Type
   pub rows : rows_of u ≡ rows_of t
   pub links : (v : Way) → same_way v w ≡ false → links_of v u ≡ links_of v t
   pub heads : (v : Way) → same_way v w ≡ false → heads_of v g ≡ heads_of v h
-  pub frees : (j : ℕ) → (j ≡ i → ⊥) → j < length (rows_of t) → slice_index_or (rows_of t) j Free ≡ Free → slice_index_or (links_of w u) j 0 ≡ slice_index_or (links_of w t) j 0
+  pub frees : (j : ℕ) → (j ≡ i → ⊥) → j < length (rows_of t) → slice_index_or (rows_of t) j None ≡ None → slice_index_or (links_of w u) j 0 ≡ slice_index_or (links_of w t) j 0
   pub free : g.free ≡ h.free
   pub count : g.count ≡ h.count
 

@@ -2,8 +2,7 @@
 use Rattle.std.specs.Prelude.{◌≡◌, ℕ, suc, ◌+◌, ◌-◌, ◌%◌, true, List, map, length, ℤ, pos, negsuc, slice_index_or, slice_set}
 use Rattle.stores.specs.Store.{Pair, label, fact}
 use Rattle.stores.specs.Piles.{sound}
-use Rattle.stores.specs.Table.{pairs_of, pile_of, distinct}
-use Rattle.stores.specs.declared.row_types.Row.{Row}
+use Rattle.stores.specs.Table.{Row, pairs_of, pile_of, distinct}
 use Rattle.chains.specs.Links.{Linked, frees}
 use Rattle.chains.specs.declared.chain_types.ChainRow.{ChainRow}
 use Rattle.chains.specs.declared.chain_types.Heads.{Heads}
@@ -55,6 +54,12 @@ with_head ByWord chain i h = record h { by_word = slice_set h.by_word chain i }
 -- the links of one way are right
 abbrev pub LinkedWay : Way → List Row → List ChainRow → Heads → Type 0
 LinkedWay w rows t h = Linked (chain_at w) rows (links_of w t) (heads_of w h)
+
+-- rows that can be walked one way: no label stands twice, the pairs are those of a store, and the links of that way are right
+pub record Walkable (w : Way) (t : List ChainRow) (h : Heads) : Type 0 where
+  pub apart : distinct (rows_of t) ≡ true
+  pub kept : sound (pile_of (rows_of t)) ≡ true
+  pub linked : LinkedWay w (rows_of t) t h
 
 -- no label stands twice, the pairs are those of a store and as many as the count says, the free rows follow one another, and so do the
 -- rows of each chain

@@ -1,4 +1,6 @@
 //! A row of the caller's table, and where the chains of a table begin.
+ghost use Rattle.std.specs.Prelude.{◌<◌};
+
 use stores::Row;
 
 /// How many chains there are of each way.
@@ -15,7 +17,18 @@ pub(crate) enum Way {
     ByWord,
 }
 
+/// The number of a chain of one way.
+#[derive(Clone, Copy)]
+pub(crate) struct Chain {
+    pub(crate) number: usize,
+    ghost few: { number < 64 },
+}
+
+/// The ways, each once.
+pub(crate) const WAYS: [Way; 3] = [Way::ByLabel, Way::ByKind, Way::ByWord];
+
 /// A row of the table, and the row after it on its chain of each way. A free row's link by label names the next free row.
+// Links are numbers of rows, since the rows are the caller's and nothing is allocated.
 #[derive(Clone, Copy)]
 pub struct ChainRow {
     pub(crate) row: Row,
@@ -26,7 +39,7 @@ pub struct ChainRow {
 
 /// A row without a pair, of which a caller makes a table.
 pub const FREE_ROW: ChainRow = ChainRow {
-    row: Row::Free,
+    row: None,
     by_label: NO_ROW,
     by_kind: NO_ROW,
     by_word: NO_ROW,
@@ -40,4 +53,11 @@ pub(crate) struct Heads {
     pub(crate) by_word: [usize; CHAINS],
     pub(crate) free: usize,
     pub(crate) count: usize,
+}
+
+/// The rows of a table, and the heads of their chains.
+#[derive(Drop)]
+pub(crate) struct LinkedTable<'a> {
+    pub(crate) table: &'a mut [ChainRow],
+    pub(crate) heads: Heads,
 }

@@ -5,37 +5,34 @@ ghost use Rattle.stores.specs.Table.{pile_of, table_answer};
 ghost use Rattle.chains.specs.Rows.{rows_of};
 ghost use Rattle.chains.specs.Acts.{AllFree};
 
-use crate::chain_types::{CHAINS, ChainRow, Heads, NO_ROW};
+use crate::chain_types::{CHAINS, ChainRow, Heads, LinkedTable, NO_ROW};
 use crate::chains_type::Chains;
 use crate::ways::free_row;
-use stores::{ROWS, TableFault};
+use stores::{TableFault, check_rows};
 
 impl<'a> Chains<'a> {
     /// Whether the table can be a store: 15 where it has no row, or more than 1,024.
     pub fn check(table: &[ChainRow]) -> Result<(), TableFault>
         ensures { result ≡ table_answer (length table.now) }
     {
-        if table.len() == 0 || table.len() > ROWS {
-            return Err(TableFault::Size);
-        }
-        Ok(())
+        check_rows(table.len())
     }
 
     /// An empty store over the table, whose rows are freed.
     pub fn new(table: &'a mut [ChainRow]) -> Chains<'a>
         requires { table_answer (length table.old) ≡ Ok tt }
-        ensures { pile_of (rows_of result.table.now) ≡ empty_pile (length table.old) }
+        ensures { pile_of (rows_of result.linked.table.now) ≡ empty_pile (length table.old) }
     {
         free_all(table);
+        let heads = Heads {
+            by_label: [NO_ROW; CHAINS],
+            by_kind: [NO_ROW; CHAINS],
+            by_word: [NO_ROW; CHAINS],
+            free: 0,
+            count: 0,
+        };
         Chains {
-            table,
-            heads: Heads {
-                by_label: [NO_ROW; CHAINS],
-                by_kind: [NO_ROW; CHAINS],
-                by_word: [NO_ROW; CHAINS],
-                free: 0,
-                count: 0,
-            },
+            linked: LinkedTable { table, heads },
         }
     }
 }

@@ -4,26 +4,42 @@ ghost use Rattle.stores.specs.Store.{of_kind_with};
 ghost use Rattle.stores.specs.Piles.{sound_pair};
 ghost use Rattle.stores.specs.Table.{pile_of};
 ghost use Rattle.chains.specs.Rows.{rows_of};
-ghost use Rattle.chains.specs.Acts.{Finds, Replaces};
+ghost use Rattle.chains.specs.Acts.{asked_label, Finds, Replaces};
 
+use crate::chain_types::{CHAINS, Chain, ChainRow, Way};
 use crate::chains_type::Chains;
-use crate::changing::{add, remove};
-use crate::finding::{find, first_asked_for, first_of_kind};
+use crate::ways::chain_of;
 use facts::{Fact, KINDS};
-use stores::{LABELS, Row, Store, StoreFault};
+use stores::{LABELS, Store, StoreFault, is_asked_for};
+
+/// The label of a row whose fact has a kind and a first word, or none.
+fn asked_label(row: &ChainRow, kind: u8, word: i64) -> Option<u32>
+    ensures { result ≡ asked_label kind word row.now.row }
+{
+    let (label, fact) = row.row?;
+    is_asked_for(&fact, kind, word).then_some(label)
+}
 
 impl Chains<'_> {
-    /// The row of a label and its fact, or none.
+    /// The row of a label and its fact, or none: the first row of the label's chain that is not below it has the label or no row has it.
     fn held(&self, label: u32) -> Option<(usize, Fact)>
-        ensures { Finds label (rows_of self.now.table.now) result }
+        ensures { Finds label (rows_of self.now.linked.table.now) result }
     {
-        find(self.table, &self.heads, label)
+        if label == 0 {
+            return None;
+        }
+        let chain = Chain {
+            number: label as usize % CHAINS,
+        };
+        let (_, at) = self.linked.place(Way::ByLabel, chain, label - 1);
+        let (held, fact) = self.linked.table.get(at)?.row?;
+        (held == label).then_some((at, fact))
     }
 
     /// Puts a fact in the place of one of its kind and first word, so that no row changes its chains. It answers whether it did.
     fn replaced(&mut self, label: u32, fact: Fact) -> bool
         requires { sound_pair (label, fact) ≡ true }
-        ensures { Replaces result label fact (rows_of self.old.table.now) (rows_of self.new.table.now) }
+        ensures { Replaces result label fact (rows_of self.old.linked.table.now) (rows_of self.new.linked.table.now) }
     {
         let Some((i, held)) = self.held(label) else {
             return false;
@@ -31,7 +47,7 @@ impl Chains<'_> {
         if !same_chains(&held, &fact) {
             return false;
         }
-        self.table[i].row = Row::Used(label, fact);
+        self.linked.table[i].row = Some((label, fact));
         true
     }
 }
@@ -40,20 +56,20 @@ impl Chains<'_> {
 fn same_chains(left: &Fact, right: &Fact) -> bool
     ensures { result ≡ of_kind_with right.now.kind (slice_index_or right.now.words 0 (pos 0)) left.now }
 {
-    left.kind == right.kind && left.words[0] == right.words[0]
+    is_asked_for(left, right.kind, right.words[0])
 }
 
 impl Store for Chains<'_> {
-    ghost meaning = { λ s. pile_of (rows_of s.table.now) };
+    ghost meaning = { λ s. pile_of (rows_of s.linked.table.now) };
 
     ghost owed = { λ s. s.chained.kept };
 
     fn capacity(&self) -> usize {
-        self.table.len()
+        self.linked.table.len()
     }
 
     fn count(&self) -> usize {
-        self.heads.count
+        self.linked.heads.count
     }
 
     fn read(&self, label: u32) -> Option<Fact> {
@@ -61,15 +77,36 @@ impl Store for Chains<'_> {
         Some(fact)
     }
 
+    /// There are as many chains as kinds, so all rows of the chain have the kind.
     fn next(&self, kind: u8, above: u32) -> Option<u32> {
-        first_of_kind(self.table, &self.heads, kind, above)
+        if kind >= KINDS {
+            return None;
+        }
+        let chain = Chain {
+            number: kind as usize,
+        };
+        let (_, at) = self.linked.place(Way::ByKind, chain, above);
+        let (label, _) = self.linked.table.get(at)?.row?;
+        Some(label)
     }
 
+    /// The walk ends at the first row that fits, since behind it the labels are greater.
     fn next_with(&self, kind: u8, word: i64, above: u32) -> Option<u32> {
-        first_asked_for(self.table, &self.heads, kind, word, above)
+        let chain = chain_of(Way::ByWord, 0, kind, word);
+        let (_, first) = self.linked.place(Way::ByWord, chain, above);
+        let table = &*self.linked.table;
+        let mut at = first;
+        while at < table.len() {
+            if let Some(label) = asked_label(&table[at], kind, word) {
+                return Some(label);
+            }
+            at = table[at].by_word;
+        }
+        None
     }
 
     /// A fact of another kind or first word than the label's own stands on other chains, and so the label's pair is taken out first.
+    // Kind and label are judged here as in `Rows`: as a call, what passes would be known only through the answer, and opened again here.
     fn put(&mut self, label: u32, fact: Fact) -> Result<(), StoreFault> {
         if fact.kind >= KINDS {
             return Err(StoreFault::Kind);
@@ -84,13 +121,13 @@ impl Store for Chains<'_> {
         if self.count() == self.capacity() {
             return Err(StoreFault::Full);
         }
-        add(self.table, &mut self.heads, label, fact);
+        self.linked.add(label, fact);
         Ok(())
     }
 
     fn take(&mut self, label: u32) -> Option<Fact> {
         let (i, fact) = self.held(label)?;
-        remove(self.table, &mut self.heads, i, label, &fact);
+        self.linked.remove(i, label, &fact);
         Some(fact)
     }
 }

@@ -6,7 +6,6 @@ mod chains_making;
 mod chains_store;
 mod chains_type;
 mod changing;
-mod finding;
 mod places;
 mod relinking;
 mod ways;

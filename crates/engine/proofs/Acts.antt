@@ -55,15 +55,13 @@ drop-more : (n : ℕ) (xs ys : List CodeReply) → drop n xs ≡ drop n ys → d
 drop-more n xs ys e = sym (drop-drop 1 n xs) ∙ ap (λ (x : List CodeReply). drop 1 x) e ∙ drop-drop 1 n ys
 
 pub done_more : (fr fr' : Frame) (as' : List CodeAct) (start : Done) (n : ℕ) (st : State) (ns : List ℕ) (before now : List CodeReply) (d : CodeAct) (st' : State) (ns' : List ℕ) (r : CodeReply) →
-    fr' ≡ fr → IsDone fr as' start n st ns before now → n < length as' → n < length now →
-    let a = get_or as' n d in
+    fr' ≡ fr → IsDone fr as' start n st ns before now → n < length as' → n < length now → (a : CodeAct) → a ≡ get_or as' n d →
     r ≡ told_of (reply fr' (act_with ns a) st) → st' ≡ after_act fr' (act_with ns a) st → ns' ≡ list_after fr' (act_with ns a) st ns →
     IsDone fr as' start (n + 1) st' ns' before (set now n r)
-done_more fr fr' as' start n st ns before now d st' ns' r same so h k e f m =
-    let a : CodeAct = get_or as' n d in
+done_more fr fr' as' start n st ns before now d st' ns' r same so h k a q e f m =
     let was : Done = with_acts fr (take n as') start in
     let more : with_acts fr (take (n + 1) as') start ≡ with_act fr a was =
-    rw (add-one, take-suc as' n d h) (with_acts-push fr (take n as') a start) in
+    rw (add-one, take-suc as' n d h) (with_acts-push fr (take n as') (get_or as' n d) start) ∙ (λ i. with_act fr (sym q i) was) in
     record {
       state = f ∙ (λ i. after_act (same i) (act_with (so.list i) a) (so.state i)) ∙ ap (λ (x : Done). x.state) (sym more);
       list = m ∙ (λ i. list_after (same i) (act_with (so.list i) a) (so.state i) (so.list i)) ∙ ap (λ (x : Done). x.list) (sym more);

@@ -4,7 +4,9 @@ use Rattle.std.proofs.lemmas.List.{drop-take, append-nil}
 use Rattle.std.proofs.lemmas.Bool.Decides.{nat_tests}
 use Rattle.rules.specs.declared.rule_types.AllRecord.{AllRecord}
 use Rattle.rules.specs.declared.rule_types.RuleRecord.{RuleRecord}
-use Rattle.rules.specs.Rules.{AllHead, all_seen, rule_seen, Within}
+use Rattle.lists.specs.Held.{held}
+use Rattle.lists.proofs.Held.{held-count}
+use Rattle.rules.specs.Rules.{AllHead, all_seen, rule_seen}
 use Rattle.stores.specs.Lists.{has}
 use Rattle.stores.specs.Store.{Pair, label, without}
 use Rattle.stores.specs.Piles.{Pile, with_pairs}
@@ -60,12 +62,12 @@ gone-alls (a ∷ (b ∷ [])) xs ys = ap (λ l. cond a.drops xs [] ++ l) (sym (ap
 gone-alls (a ∷ (b ∷ (c ∷ hs))) xs ys = ap (λ l. cond a.drops xs [] ++ l) (sym (append-nil (cond b.drops ys [])))
 
 -- the labels of the `drop` heads
-pub drops_of : (r : RuleRecord) (ls : List ℕ) → Within r → take (r.single_count - r.keep_count) (drop r.keep_count ls) ≡ drop (length (rule_seen r).keeps) (take r.single_count ls)
-drops_of r ls w =
-    let k : length (take r.keep_count r.singles) ≡ r.keep_count = length-take-le r.keep_count r.singles (omega (arith, w.keeps, w.singles, w.long_singles)) in
-    let n : r.keep_count + (r.single_count - r.keep_count) ≡ r.single_count = omega (arith, w.keeps) in
-    sym (drop-take r.keep_count (r.single_count - r.keep_count) ls) ∙ (λ i. drop (sym k i) (take (n i) ls))
+pub drops_of : (r : RuleRecord) (ls : List ℕ) → take (r.singles.count - r.keep_count) (drop r.keep_count ls) ≡ drop (length (rule_seen r).keeps) (take r.singles.count ls)
+drops_of r ls =
+    let k : length (rule_seen r).keeps ≡ r.keep_count = length-take-le r.keep_count (held r.singles) (omega (arith, r.keeps, held-count r.singles)) in
+    let n : r.keep_count + (r.singles.count - r.keep_count) ≡ r.singles.count = omega (arith, r.keeps) in
+    sym (drop-take r.keep_count (r.singles.count - r.keep_count) ls) ∙ (λ i. drop (sym k i) (take (n i) ls))
 
-pub gone-rows : (r : RuleRecord) (ls xs ys : List ℕ) → Within r →
-    take (r.single_count - r.keep_count) (drop r.keep_count ls) ++ (gone_by (rule_seen r).alls 0 xs ++ gone_by (rule_seen r).alls 1 ys) ≡ gone_labels (rule_seen r) (take r.single_count ls) xs ys
-gone-rows r ls xs ys w = λ i. drops_of r ls w i ++ gone-alls (rule_seen r).alls xs ys i
+pub gone-rows : (r : RuleRecord) (ls xs ys : List ℕ) →
+    take (r.singles.count - r.keep_count) (drop r.keep_count ls) ++ (gone_by (rule_seen r).alls 0 xs ++ gone_by (rule_seen r).alls 1 ys) ≡ gone_labels (rule_seen r) (take r.singles.count ls) xs ys
+gone-rows r ls xs ys = λ i. drops_of r ls i ++ gone-alls (rule_seen r).alls xs ys i

@@ -24,10 +24,10 @@ module _ (rs : List Rule) (p : HeadPlace) (number : ℕ) (e : place_seen rs (Som
   module _ (i : ℕ) (o : Bor RuleRecord) (at : i ≡ p.rule) (a : IsRuleAt rs i (Some o)) where
     pub record_stands : stand every_word rs ≡ true → accepted (rule_verdict every_word (rule_seen o.now)) ≡ true
     record_stands s =
-        ap (λ r. accepted (rule_verdict every_word r)) (record_at rs i p.rule o at a).means
+        ap (λ r. accepted (rule_verdict every_word r)) (record_at rs i p.rule o at a)
         ∙ each-accepted (rule_verdict every_word) (at-mem rs p.rule no_parts rule_in) s
 
-    pub record_place : p.place < o.now.single_count
+    pub record_place : p.place < o.now.singles.count
     record_place =
         let b = record_at rs i p.rule o at a in
-        omega (arith, place_in_lem, singles-count o.now b.within, ap heads_of b.means)
+        omega (arith, place_in_lem, singles-count o.now, ap heads_of b)

@@ -11,9 +11,10 @@ use Rattle.facts.specs.declared.fact_types.Fact.{Fact}
 use Rattle.rules.specs.declared.rule_types.RuleRecord.{RuleRecord}
 use Rattle.rules.specs.declared.rule_types.HeadPlace.{HeadPlace}
 use Rattle.rules.specs.Writing.{no_parts}
-use Rattle.rules.specs.Rules.{Rule, rule_seen, Within, all}
-use Rattle.rules.specs.Closed.{heads_of, Place, stand, every_word, IsRuleAt, IsRecordOf}
-use Rattle.rules.proofs.Records.{singles-count, alls-count, gives-count, givealls-count}
+use Rattle.rules.specs.Rules.{Rule, rule_seen, all}
+use Rattle.rules.specs.Closed.{heads_of, Place, stand, every_word, IsRuleAt}
+use Rattle.rules.proofs.Records.{singles-count, alls-count}
+use Rattle.lists.proofs.Held.{held-count}
 use Rattle.stores.specs.Lists.{has}
 use Rattle.stores.specs.Store.{Pair, label, fact, labels, facts}
 use Rattle.stores.specs.Piles.{Pile, Owed}
@@ -30,7 +31,6 @@ use Rattle.machine.proofs.Rooms.{some-none, room_case}
 use Rattle.machine.proofs.Stands.{RuleStands, rule-stands}
 use Rattle.engine.specs.declared.body_type.Body.{Body}
 use Rattle.engine.specs.declared.search.Choice.{Choice}
-use Rattle.engine.specs.declared.taking.Taken.{Taken}
 use Rattle.engine.specs.declared.taking.AllTaken.{AllTaken}
 use Rattle.engine.specs.Applying.{rule_at, place_at, choice_in, facts_in, left_in, fault_of, IsReady}
 use Rattle.engine.specs.Bringing.{has_kind}
@@ -38,7 +38,7 @@ use Rattle.engine.specs.Goals.{below}
 use Rattle.engine.specs.Letters.{setting_in}
 use Rattle.engine.specs.Room.{short_of_store, short_of_room}
 use Rattle.engine.specs.Searching.{IsFound}
-use Rattle.engine.specs.Taking.{takes, all_taken, Took, gone_number, HasFacts, IsBody}
+use Rattle.engine.specs.Taking.{takes, all_taken, Taken, Took, gone_number, HasFacts, IsBody}
 use Rattle.engine.proofs.ApplyBodies.{body-kinds, body-few}
 use Rattle.engine.proofs.ApplyGone.{drops_of}
 use Rattle.engine.proofs.ApplyLabels.{Chosen, chosen-is, gone-length, took-within, active-goes, owed-apart}
@@ -62,15 +62,15 @@ found-is r (Some c) x h = record { chosen = refl; labels = h.0; letters = h.1 }
 
 -- bodies ---------------------------------------------------------------------------------------------------------------
 
-false_true : false ≡ true → ⊥
-false_true e = cc
+none_some : {X : Type 0} (x : X) → None ≡ Some x → ⊥
+none_some x e = cc
 
-pub no-body : (o : Option (List Fact)) (b : Body) → IsBody o b false → o ≡ None
+pub no-body : (o : Option (List Fact)) (b : Body) → IsBody o b None → o ≡ None
 no-body None b h = refl
-no-body (Some fs) b h = absurd (false_true h.0)
+no-body (Some fs) b h = absurd (none_some tt h.0)
 
-pub some-body : (o : Option (List Fact)) (b : Body) → IsBody o b true → (fs : List Fact) × (o ≡ Some fs) × HasFacts fs b
-some-body None b h = absurd (false_true (sym h))
+pub some-body : (o : Option (List Fact)) (b : Body) → IsBody o b (Some tt) → (fs : List Fact) × (o ≡ Some fs) × HasFacts fs b
+some-body None b h = absurd (none_some tt (sym h))
 some-body (Some fs) b h = (fs, refl, h.1)
 
 -- where they are at most 512, a body has all its facts
@@ -103,15 +103,14 @@ pub record Weighing (fr : Frame) (st : State) (h : Place) (l : ℕ) (c : List Pa
   pub owed : Owed m
   pub pairs : m.pairs ≡ st.pairs
   pub means : rule_seen o ≡ h.rule
-  pub within : Within o
   pub chosen : Chosen fr.system h.rule h.place l st.pairs c
   pub placed : h.place < heads_of h.rule
   pub found : take (heads_of h.rule) x.labels ≡ labels c
   pub letters : setting_in x.letters ≡ setting_of h.rule (facts c)
 
 -- a record at an index
-pub record_at : (rs : List Rule) (i j : ℕ) (o : Bor RuleRecord) → i ≡ j → IsRuleAt rs i (Some o) → IsRecordOf (get_or rs j no_parts) o.now
-record_at rs i j o e a = subst (λ n. IsRecordOf (get_or rs n no_parts) o.now) e a.1
+pub record_at : (rs : List Rule) (i j : ℕ) (o : Bor RuleRecord) → i ≡ j → IsRuleAt rs i (Some o) → rule_seen o.now ≡ get_or rs j no_parts
+record_at rs i j o e a = a.1 ∙ ap (λ n. get_or rs n no_parts) e
 
 pub weighing_is : (s : System) (rules : List Rule) (next : ℕ) (goals : List Goal) (p : HeadPlace) (l i : ℕ) (m : Pile) (o : Bor RuleRecord) (x : Choice) →
     i ≡ p.rule → Owed m → IsRuleAt rules i (Some o) → p.place < heads_of (rule_at rules p) → IsFound (rule_at rules p) (chosen s (rule_at rules p) p.place l m.pairs) (Some x) →
@@ -123,8 +122,7 @@ weighing_is s rules next goals p l i m o x e owed a placed h =
     record {
       owed = owed;
       pairs = refl;
-      means = r.means;
-      within = r.within;
+      means = r;
       chosen = chosen-is s (rule_at rules p) p.place l m.pairs (choice_in (chosen s (rule_at rules p) p.place l m.pairs)) f.chosen;
       placed = placed;
       found = f.labels;
@@ -138,28 +136,28 @@ module _ {fr : Frame} {st : State} {h : Place} {l : ℕ} {c : List Pair} {m : Pi
   few-pairs : length st.pairs ≤ 1024
   few-pairs = omega (arith, owed-length m w.owed, ap length w.pairs)
 
-  heads : o.single_count ≡ heads_of h.rule
-  heads = sym (singles-count o w.within) ∙ ap heads_of w.means
+  heads : o.singles.count ≡ heads_of h.rule
+  heads = sym (singles-count o) ∙ ap heads_of w.means
 
   alls : length h.rule.alls ≤ 2
-  alls = omega (arith, w.within.alls, alls-count o w.within, ap (λ (r : Rule). length r.alls) w.means)
+  alls = omega (arith, o.alls.few, alls-count o, ap (λ (r : Rule). length r.alls) w.means)
 
-  row : take o.single_count x.labels ≡ labels c
+  row : take o.singles.count x.labels ≡ labels c
   row = ap (λ n. take n x.labels) heads ∙ w.found
 
-  pub same-taken : all_taken fr.system (setting_in x.letters) (rule_seen o) (take o.single_count x.labels) st.pairs ≡ taken_of fr.system h.rule st.pairs c
+  pub same-taken : all_taken fr.system (setting_in x.letters) (rule_seen o) (take o.singles.count x.labels) st.pairs ≡ taken_of fr.system h.rule st.pairs c
   same-taken = λ i. all_taken fr.system (w.letters i) (w.means i) (row i) st.pairs
 
-  pub same-given : body fr.system (setting_in x.letters) (rule_seen o) (map facts (all_taken fr.system (setting_in x.letters) (rule_seen o) (take o.single_count x.labels) st.pairs)) ≡ given_of fr.system h.rule st.pairs c
+  pub same-given : body fr.system (setting_in x.letters) (rule_seen o) (map facts (all_taken fr.system (setting_in x.letters) (rule_seen o) (take o.singles.count x.labels) st.pairs)) ≡ given_of fr.system h.rule st.pairs c
   same-given = λ i. body fr.system (w.letters i) (w.means i) (map facts (same-taken i))
 
-  pub took-is : (i : ℕ) (t : Taken) → Took (get_or (all_taken fr.system (setting_in x.letters) (rule_seen o) (take o.single_count x.labels) st.pairs) i []) t → Took (get_or (taken_of fr.system h.rule st.pairs c) i []) t
+  pub took-is : (i : ℕ) (t : Taken) → Took (get_or (all_taken fr.system (setting_in x.letters) (rule_seen o) (take o.singles.count x.labels) st.pairs) i []) t → Took (get_or (taken_of fr.system h.rule st.pairs c) i []) t
   took-is i t a = subst (λ ts. Took (get_or ts i []) t) same-taken a
 
-  pub given-body : (b : Body) (a : Bool) → a ≡ true → IsBody (body fr.system (setting_in x.letters) (rule_seen o) (map facts (all_taken fr.system (setting_in x.letters) (rule_seen o) (take o.single_count x.labels) st.pairs))) b a →
+  pub given-body : (b : Body) (a : Option (Unit {0})) → a ≡ Some tt → IsBody (body fr.system (setting_in x.letters) (rule_seen o) (map facts (all_taken fr.system (setting_in x.letters) (rule_seen o) (take o.singles.count x.labels) st.pairs))) b a →
       (fs : List Fact) × (given_of fr.system h.rule st.pairs c ≡ Some fs) × HasFacts fs b
   given-body b a e k =
-      some-body (given_of fr.system h.rule st.pairs c) b (subst (λ (x : Bool). IsBody (given_of fr.system h.rule st.pairs c) b x) e (subst (λ y. IsBody y b a) same-given k))
+      some-body (given_of fr.system h.rule st.pairs c) b (subst (λ (x : Option (Unit {0})). IsBody (given_of fr.system h.rule st.pairs c) b x) e (subst (λ y. IsBody y b a) same-given k))
 
   -- an all head takes no more than there is
   taken-few : (i : ℕ) → length (get_or (map facts (taken_of fr.system h.rule st.pairs c)) i []) ≤ 1024
@@ -176,18 +174,18 @@ module _ {fr : Frame} {st : State} {h : Place} {l : ℕ} {c : List Pair} {m : Pi
     pub given-few : (fs : List Fact) → given_of fr.system h.rule st.pairs c ≡ Some fs → length fs ≤ 4000
     given-few fs e =
         body-few fr.system (setting_of h.rule (facts c)) h.rule (map facts (taken_of fr.system h.rule st.pairs c)) given-stands
-        (omega (arith, w.within.gives, gives-count o w.within, ap (λ (r : Rule). length r.gives) w.means))
-        (omega (arith, w.within.givealls, givealls-count o w.within, ap (λ (r : Rule). length r.givealls) w.means))
+        (omega (arith, o.gives.few, held-count o.gives, ap (λ (r : Rule). length r.gives) w.means))
+        (omega (arith, o.givealls.few, held-count o.givealls, ap (λ (r : Rule). length r.givealls) w.means))
         taken-few fs e
 
     given-kinds : (fs : List Fact) → given_of fr.system h.rule st.pairs c ≡ Some fs → all has_kind fs ≡ true
     given-kinds fs e = body-kinds fr.system (setting_of h.rule (facts c)) h.rule (map facts (taken_of fr.system h.rule st.pairs c)) given-stands fs e
 
   -- a body without a value is the fault
-  pub refused-body : (b : Body) (a : Bool) → a ≡ false → IsBody (body fr.system (setting_in x.letters) (rule_seen o) (map facts (all_taken fr.system (setting_in x.letters) (rule_seen o) (take o.single_count x.labels) st.pairs))) b a →
+  pub refused-body : (b : Body) (a : Option (Unit {0})) → a ≡ None → IsBody (body fr.system (setting_in x.letters) (rule_seen o) (map facts (all_taken fr.system (setting_in x.letters) (rule_seen o) (take o.singles.count x.labels) st.pairs))) b a →
       fault_of fr (left_in fr.system h l st c) (given_of fr.system h.rule st.pairs c) ≡ Some fault.Body
   refused-body b a e k =
-      let k' = subst (λ (x : Bool). IsBody (given_of fr.system h.rule st.pairs c) b x) e (subst (λ y. IsBody y b a) same-given k) in
+      let k' = subst (λ (x : Option (Unit {0})). IsBody (given_of fr.system h.rule st.pairs c) b x) e (subst (λ y. IsBody y b a) same-given k) in
       ap (fault_of fr (left_in fr.system h l st c)) (no-body (given_of fr.system h.rule st.pairs c) b k')
 
   -- what leaves
@@ -202,14 +200,14 @@ module _ {fr : Frame} {st : State} {h : Place} {l : ℕ} {c : List Pair} {m : Pi
     pub used-within : heads_of h.rule + (t.first.count + t.second.count) ≤ length st.pairs
     used-within = omega (arith, first.count, second.count, took-within fr.system h.rule h.place l st.pairs c apart w.chosen alls)
 
-    pub goes-is : has l (take (o.single_count - o.keep_count) (drop o.keep_count x.labels)) ≡ has l (labels (gone_of fr.system h.rule st.pairs c))
+    pub goes-is : has l (take (o.singles.count - o.keep_count) (drop o.keep_count x.labels)) ≡ has l (labels (gone_of fr.system h.rule st.pairs c))
     goes-is =
-        ap (has l) (drops_of o x.labels w.within ∙ (λ i. drop (length (w.means i).keeps) (row i)))
+        ap (has l) (drops_of o x.labels ∙ (λ i. drop (length (w.means i).keeps) (row i)))
         ∙ sym (active-goes fr.system h.rule h.place l st.pairs c apart w.chosen w.placed)
 
     -- whether there is room
     module _ (removed : ℕ) (goes : Bool) (b : Body) (fs : List Fact) (gone : removed ≡ gone_number (rule_seen o) t.first.count t.second.count)
-        (top : goes ≡ has l (take (o.single_count - o.keep_count) (drop o.keep_count x.labels))) (some_goal : 1 ≤ length st.goals) (has' : HasFacts fs b)
+        (top : goes ≡ has l (take (o.singles.count - o.keep_count) (drop o.keep_count x.labels))) (some_goal : 1 ≤ length st.goals) (has' : HasFacts fs b)
         (given : given_of fr.system h.rule st.pairs c ≡ Some fs) where
       left : State
       left = left_in fr.system h l st c

@@ -8,7 +8,7 @@ use Rattle.std.proofs.lemmas.List.{append_assoc, append-nil, length-map, length-
 use Rattle.std.proofs.Math.ListN.{get_or-map}
 use Rattle.std.specs.Prelude.{unwrap_or}
 use Rattle.facts.specs.declared.fact_types.Fact.{Fact}
-use Rattle.rules.specs.Rules.{Rule, all, rule_seen, Within}
+use Rattle.rules.specs.Rules.{Rule, all, rule_seen}
 use Rattle.rules.specs.declared.rule_types.RuleRecord.{RuleRecord}
 use Rattle.rules.specs.declared.rule_types.GiveAll.{GiveAll}
 use Rattle.stores.specs.Store.{Pair, label, fact, labels, facts, read}
@@ -20,10 +20,9 @@ use Rattle.stores.proofs.Pairs.{above, all_above, all-kept}
 use Rattle.engine.proofs.Takings.{all_taken-at, heads_long}
 use Rattle.engine.specs.Searching.{no_fact, fact_at, pairs_at}
 use Rattle.engine.specs.declared.body_type.Body.{Body}
-use Rattle.engine.specs.declared.taking.Taken.{Taken}
 use Rattle.facts.specs.System.{System}
 use Rattle.machine.specs.Fitting.{Setting, given, all_values, body}
-use Rattle.engine.specs.Taking.{with_given, with_all_given, Gives, HasFacts, IsBody, Took, Held, takes, taken_at, all_taken, labels_over, given_over}
+use Rattle.engine.specs.Taking.{with_given, with_all_given, Gives, HasFacts, IsBody, Taken, taken_labels, Took, Held, takes, taken_at, all_taken, labels_over, given_over}
 
 -- giving ------------------------------------------------------------------------------------------------------------
 
@@ -38,35 +37,35 @@ mapped b f (Some fs) = refl
 pub values_more : (b : Body) (f : Fact) (os : List (Option Fact)) → with_values b (Some f ∷ os) ≡ with_values (with_given b f) os
 values_more b f os = mapped b f (all_values os)
 
-gives-done : (old new : Body) (o : Option (List Fact)) → option_map (with_all_given old) o ≡ Some new → Gives o old new true
+gives-done : (old new : Body) (o : Option (List Fact)) → option_map (with_all_given old) o ≡ Some new → Gives o old new (Some tt)
 gives-done old new None e = grind (arith, nat_tests)
 gives-done old new (Some fs) e = (refl, sym (some-same _ _ e))
   where
     some-same : (a b : Body) → Some a ≡ Some b → a ≡ b
     some-same a b e = cc
 
-gives_fail : (old new : Body) (o : Option (List Fact)) → option_map (with_all_given old) o ≡ None → Gives o old new false
+gives_fail : (old new : Body) (o : Option (List Fact)) → option_map (with_all_given old) o ≡ None → Gives o old new None
 gives_fail old new None e = refl
 gives_fail old new (Some fs) e = grind (arith, nat_tests)
 
-pub values_done : (old new : Body) (os : List (Option Fact)) → with_values old os ≡ Some new → Gives (all_values os) old new true
+pub values_done : (old new : Body) (os : List (Option Fact)) → with_values old os ≡ Some new → Gives (all_values os) old new (Some tt)
 values_done old new os e = gives-done old new (all_values os) e
 
-pub values_fail : (old new : Body) (os : List (Option Fact)) → with_values old os ≡ None → Gives (all_values os) old new false
+pub values_fail : (old new : Body) (os : List (Option Fact)) → with_values old os ≡ None → Gives (all_values os) old new None
 values_fail old new os e = gives_fail old new (all_values os) e
 
-from_gives : (old new : Body) (o : Option (List Fact)) → Gives o old new true → option_map (with_all_given old) o ≡ Some new
+from_gives : (old new : Body) (o : Option (List Fact)) → Gives o old new (Some tt) → option_map (with_all_given old) o ≡ Some new
 from_gives old new None g = grind (arith, nat_tests)
 from_gives old new (Some fs) g = ap Some (sym g.1)
 
-from_fails : (old new : Body) (o : Option (List Fact)) → Gives o old new false → option_map (with_all_given old) o ≡ None
+from_fails : (old new : Body) (o : Option (List Fact)) → Gives o old new None → option_map (with_all_given old) o ≡ None
 from_fails old new None g = refl
 from_fails old new (Some fs) g = let e = g.0 in grind (arith, nat_tests)
 
-pub values_from : (old new : Body) (os : List (Option Fact)) → Gives (all_values os) old new true → with_values old os ≡ Some new
+pub values_from : (old new : Body) (os : List (Option Fact)) → Gives (all_values os) old new (Some tt) → with_values old os ≡ Some new
 values_from old new os g = from_gives old new (all_values os) g
 
-values_not : (old new : Body) (os : List (Option Fact)) → Gives (all_values os) old new false → with_values old os ≡ None
+values_not : (old new : Body) (os : List (Option Fact)) → Gives (all_values os) old new None → with_values old os ≡ None
 values_not old new os g = from_fails old new (all_values os) g
 
 -- first some, then the others
@@ -140,14 +139,14 @@ has_facts fs b h = has_all [] fs b h
 pub kept-facts : (fs : List Fact) (b : Body) → HasFacts fs b → take (min b.count 512) b.facts ≡ take 512 fs
 kept-facts fs b h = ap (λ n. take (min b.count n) b.facts) (sym h.wide) ∙ (take_min b.count b.facts ∙ h.facts)
 
-body_from : (b : Body) (o : Option (List Fact)) (new : Body) → HasFacts [] b → option_map (with_all_given b) o ≡ Some new → IsBody o new true
+body_from : (b : Body) (o : Option (List Fact)) (new : Body) → HasFacts [] b → option_map (with_all_given b) o ≡ Some new → IsBody o new (Some tt)
 body_from b None new h e = grind (arith, nat_tests)
 body_from b (Some fs) new h e = (refl, subst (λ x. HasFacts fs x) (some-same _ _ e) (has_facts fs b h))
   where
     some-same : (a b : Body) → Some a ≡ Some b → a ≡ b
     some-same a b e = cc
 
-no_body : (b new : Body) (o : Option (List Fact)) → option_map (with_all_given b) o ≡ None → IsBody o new false
+no_body : (b new : Body) (o : Option (List Fact)) → option_map (with_all_given b) o ≡ None → IsBody o new None
 no_body b new None e = refl
 no_body b new (Some fs) e = grind (arith, nat_tests)
 
@@ -166,45 +165,41 @@ over-more ps value ls i d f g old b new whole w h e v a =
     w ∙ (over-step ps value ls i d f b h (sym e) ∙ (ap (λ o. with_values b (o ∷ rest)) (sym v) ∙ (values_more b g rest ∙ ap (λ x. with_values x rest) (sym a))))
 
 pub over_stop : (ps : List Pair) (value : Fact → Option Fact) (ls : List ℕ) (i d : ℕ) (f : Fact) (old b new : Body) (whole : List (Option Fact)) →
-    with_values old whole ≡ with_values b (map value (facts (pairs_at ps (drop i ls)))) → i < length ls → Some f ≡ read (get_or ls i d) ps → None ≡ value f → Gives (all_values whole) old new false
+    with_values old whole ≡ with_values b (map value (facts (pairs_at ps (drop i ls)))) → i < length ls → Some f ≡ read (get_or ls i d) ps → None ≡ value f → Gives (all_values whole) old new None
 over_stop ps value ls i d f old b new whole w h e v =
     let rest = map value (facts (pairs_at ps (drop (i + 1) ls))) in
     values_fail old new whole (w ∙ (over-step ps value ls i d f b h (sym e) ∙ ap (λ o. with_values b (o ∷ rest)) (sym v)))
 
 -- a step of what the `giveall`s give
 pub all-more : (give : GiveAll → List (Option Fact)) (gs : List GiveAll) (i : ℕ) (d : GiveAll) (old b new : Body) (whole : List (Option Fact)) →
-    with_values old whole ≡ with_values b (flat_map give (drop i gs)) → i < length gs → Gives (all_values (give (get_or gs i d))) b new true → with_values old whole ≡ with_values new (flat_map give (drop (i + 1) gs))
+    with_values old whole ≡ with_values b (flat_map give (drop i gs)) → i < length gs → Gives (all_values (give (get_or gs i d))) b new (Some tt) → with_values old whole ≡ with_values new (flat_map give (drop (i + 1) gs))
 all-more give gs i d old b new whole w h g =
     w ∙ (at_drop_more (λ xs. with_values b (flat_map give xs)) gs i d h
     ∙ values_append b new (give (get_or gs i d)) (flat_map give (drop (i + 1) gs)) (values_from b new (give (get_or gs i d)) g))
 
 pub all_stop : (give : GiveAll → List (Option Fact)) (gs : List GiveAll) (i : ℕ) (d : GiveAll) (old b new : Body) (whole : List (Option Fact)) →
-    with_values old whole ≡ with_values b (flat_map give (drop i gs)) → i < length gs → Gives (all_values (give (get_or gs i d))) b new false → Gives (all_values whole) old new false
+    with_values old whole ≡ with_values b (flat_map give (drop i gs)) → i < length gs → Gives (all_values (give (get_or gs i d))) b new None → Gives (all_values whole) old new None
 all_stop give gs i d old b new whole w h g =
     values_fail old new whole
     (w ∙ (at_drop_more (λ xs. with_values b (flat_map give xs)) gs i d h
     ∙ values_stop b (give (get_or gs i d)) (flat_map give (drop (i + 1) gs)) (values_not b new (give (get_or gs i d)) g)))
 
-pub gives_along : {X : Type 0} (F : X → List (Option Fact)) (ls ms : X) (old new : Body) (a b : Bool) → ls ≡ ms → a ≡ b → Gives (all_values (F ls)) old new a → Gives (all_values (F ms)) old new b
+pub gives_along : {X : Type 0} (F : X → List (Option Fact)) (ls ms : X) (old new : Body) (a b : Option (Unit {0})) → ls ≡ ms → a ≡ b → Gives (all_values (F ls)) old new a → Gives (all_values (F ms)) old new b
 gives_along {X} F ls ms old new a b e h g =
-    subst (λ (xs : X). Gives (all_values (F xs)) old new b) e (subst (λ (x : Bool). Gives (all_values (F ls)) old new x) h g)
+    subst (λ (xs : X). Gives (all_values (F xs)) old new b) e (subst (λ (x : Option (Unit {0})). Gives (all_values (F ls)) old new x) h g)
 
--- what is given for the first of a list
-pub gives-front : (F : ℕ → List (Option Fact)) (n : ℕ) (old new : Body) (a b : Bool) → a ≡ b → Gives (all_values (F (n - 0))) old new a → Gives (all_values (F n)) old new b
-gives-front F n old new a b h g = let e : n - 0 ≡ n = omega arith in gives_along F (n - 0) n old new a b e h g
+over-few : (k : ℕ) (t u : Taken) → length (get_or (taken_labels t ∷ (taken_labels u ∷ [])) k []) ≤ 1024
+over-few zero t u = omega (arith, t.few, length-take t.count t.items)
+over-few (suc zero) t u = omega (arith, u.few, length-take u.count u.items)
+over-few (suc (suc i)) t u = omega arith
 
-over-few : (k : ℕ) (t u : Taken) → t.count ≤ 1024 → u.count ≤ 1024 → length (get_or (take t.count t.labels ∷ (take u.count u.labels ∷ [])) k []) ≤ 1024
-over-few zero t u h k = omega (arith, length-take t.count t.labels)
-over-few (suc zero) t u h k = omega (arith, length-take u.count u.labels)
-over-few (suc (suc i)) t u h k = omega arith
-
-pub length-given_over : (s : System) (σ : Setting) (ps : List Pair) (t u : Taken) (g : GiveAll) → t.count ≤ 1024 → u.count ≤ 1024 → length (given_over s σ ps t u g) ≤ 1024
-length-given_over s σ ps t u g h k =
+pub length-given_over : (s : System) (σ : Setting) (ps : List Pair) (t u : Taken) (g : GiveAll) → length (given_over s σ ps t u g) ≤ 1024
+length-given_over s σ ps t u g =
     let ls = labels_over g.over t u in
     let a = length-map (facts (pairs_at ps ls)) (λ f. given s σ f.words g.each) in
     let b = length-map (pairs_at ps ls) fact in
     let c = length-map {B = Pair} ls (λ l. (l, fact_at ps l)) in
-    omega (arith, over-few (g.over - 1) t u h k, a, b, c)
+    omega (arith, over-few (g.over - 1) t u, a, b, c)
 
 -- pairs found again by their labels ---------------------------------------------------------------------------------
 
@@ -246,13 +241,10 @@ pairs_back k (p ∷ ps) r =
 -- what all heads took, by its labels
 pub took_held : (s : System) (σ : Setting) (r : Rule) (ls : List ℕ) (m : Pile) (i : ℕ) (t : Taken) → Took (get_or (all_taken s σ r ls m.pairs) i []) t → Held m.pairs t
 took_held s σ r ls m i t k =
-    let e : take t.count t.labels ≡ labels (taken_at s σ r.alls i ls m.pairs) = k.held ∙ ap labels (all_taken-at s σ r ls m.pairs i) in
-    record {
-      bound = k.bound;
-      each = ap (all (λ n. is_some (read n m.pairs))) e ∙ kept_held (λ p. not (has p.0 ls) && takes s σ r.alls i (fact p)) m.pairs;
-    }
+    let e : taken_labels t ≡ labels (taken_at s σ r.alls i ls m.pairs) = k.held ∙ ap labels (all_taken-at s σ r ls m.pairs i) in
+    ap (all (λ n. is_some (read n m.pairs))) e ∙ kept_held (λ p. not (has p.0 ls) && takes s σ r.alls i (fact p)) m.pairs
 
-took_back : (s : System) (σ : Setting) (r : Rule) (ls : List ℕ) (m : Pile) → Owed m → (i : ℕ) (t : Taken) → Took (get_or (all_taken s σ r ls m.pairs) i []) t → facts (pairs_at m.pairs (take t.count t.labels)) ≡ get_or (map facts (all_taken s σ r ls m.pairs)) i []
+took_back : (s : System) (σ : Setting) (r : Rule) (ls : List ℕ) (m : Pile) → Owed m → (i : ℕ) (t : Taken) → Took (get_or (all_taken s σ r ls m.pairs) i []) t → facts (pairs_at m.pairs (taken_labels t)) ≡ get_or (map facts (all_taken s σ r ls m.pairs)) i []
 took_back s σ r ls m o i t k =
     let x = all_taken-at s σ r ls m.pairs i in
     let b = pairs_back (λ p. not (has p.0 ls) && takes s σ r.alls i (fact p)) m.pairs (owed-rises m o) in
@@ -263,17 +255,17 @@ took_back s σ r ls m o i t k =
 pub record Found (ps : List Pair) (ts : List (List Pair)) (t u : Taken) : Type 0 where
   pub facts_over : (o : ℕ) → facts (pairs_at ps (labels_over o t u)) ≡ get_or (map facts ts) (o - 1) []
 
-pub found : (s : System) (σ : Setting) (r : RuleRecord) (ls : List ℕ) (m : Pile) (t u : Taken) → Owed m → Within r → Took (get_or (all_taken s σ (rule_seen r) ls m.pairs) 0 []) t → Took (get_or (all_taken s σ (rule_seen r) ls m.pairs) 1 []) u →
+pub found : (s : System) (σ : Setting) (r : RuleRecord) (ls : List ℕ) (m : Pile) (t u : Taken) → Owed m → Took (get_or (all_taken s σ (rule_seen r) ls m.pairs) 0 []) t → Took (get_or (all_taken s σ (rule_seen r) ls m.pairs) 1 []) u →
     Found m.pairs (all_taken s σ (rule_seen r) ls m.pairs) t u
-found s σ r ls m t u w v k l = record { facts_over = λ o. go (o - 1) }
+found s σ r ls m t u w k l = record { facts_over = λ o. go (o - 1) }
   where
-    go : (i : ℕ) → facts (pairs_at m.pairs (get_or (take t.count t.labels ∷ (take u.count u.labels ∷ [])) i [])) ≡ get_or (map facts (all_taken s σ (rule_seen r) ls m.pairs)) i []
+    go : (i : ℕ) → facts (pairs_at m.pairs (get_or (taken_labels t ∷ (taken_labels u ∷ [])) i [])) ≡ get_or (map facts (all_taken s σ (rule_seen r) ls m.pairs)) i []
     go zero = took_back s σ (rule_seen r) ls m w 0 t k
     go (suc zero) = took_back s σ (rule_seen r) ls m w 1 u l
     go (suc (suc i)) =
-        let n = heads_long s σ r ls m.pairs v in
+        let n = heads_long s σ r ls m.pairs in
         let x = length-map (all_taken s σ (rule_seen r) ls m.pairs) facts in
-        let b : length (map facts (all_taken s σ (rule_seen r) ls m.pairs)) ≤ suc (suc i) = omega (arith, v.alls) in
+        let b : length (map facts (all_taken s σ (rule_seen r) ls m.pairs)) ≤ suc (suc i) = omega (arith, r.alls.few) in
         sym (get_or_past (map facts (all_taken s σ (rule_seen r) ls m.pairs)) (suc (suc i)) [] b)
 
 -- the body of a rule ------------------------------------------------------------------------------------------------
@@ -289,34 +281,34 @@ body_is s σ r ts ps t u f =
     ap (λ xs. all_values (map (given s σ []) r.gives ++ xs)) e
 
 body-whole : (s : System) (σ : Setting) (r : Rule) (ts : List (List Pair)) (ps : List Pair) (t u : Taken) (old mid new : Body) → HasFacts [] old → Found ps ts t u →
-    Gives (all_values (map (given s σ []) r.gives)) old mid true → Gives (all_values (flat_map (given_over s σ ps t u) r.givealls)) mid new true → IsBody (body s σ r (map facts ts)) new true
+    Gives (all_values (map (given s σ []) r.gives)) old mid (Some tt) → Gives (all_values (flat_map (given_over s σ ps t u) r.givealls)) mid new (Some tt) → IsBody (body s σ r (map facts ts)) new (Some tt)
 body-whole s σ r ts ps t u old mid new h f g k =
     let xs = map (given s σ []) r.gives in
     let ys = flat_map (given_over s σ ps t u) r.givealls in
     let e = values_append old mid xs ys (values_from old mid xs g) ∙ values_from mid new ys k in
-    subst (λ o. IsBody o new true) (body_is s σ r ts ps t u f) (body_from old (all_values (xs ++ ys)) new h e)
+    subst (λ o. IsBody o new (Some tt)) (body_is s σ r ts ps t u f) (body_from old (all_values (xs ++ ys)) new h e)
 
 pub body_stops : (s : System) (σ : Setting) (r : Rule) (ts : List (List Pair)) (ps : List Pair) (t u : Taken) (old mid : Body) → Found ps ts t u →
-    Gives (all_values (map (given s σ []) r.gives)) old mid false → IsBody (body s σ r (map facts ts)) mid false
+    Gives (all_values (map (given s σ []) r.gives)) old mid None → IsBody (body s σ r (map facts ts)) mid None
 body_stops s σ r ts ps t u old mid f g =
     let xs = map (given s σ []) r.gives in
     let ys = flat_map (given_over s σ ps t u) r.givealls in
     let e = values_stop old xs ys (values_not old mid xs g) in
-    subst (λ o. IsBody o mid false) (body_is s σ r ts ps t u f) (no_body old mid (all_values (xs ++ ys)) e)
+    subst (λ o. IsBody o mid None) (body_is s σ r ts ps t u f) (no_body old mid (all_values (xs ++ ys)) e)
 
 body_stops_later : (s : System) (σ : Setting) (r : Rule) (ts : List (List Pair)) (ps : List Pair) (t u : Taken) (old mid new : Body) → Found ps ts t u →
-    Gives (all_values (map (given s σ []) r.gives)) old mid true → Gives (all_values (flat_map (given_over s σ ps t u) r.givealls)) mid new false → IsBody (body s σ r (map facts ts)) new false
+    Gives (all_values (map (given s σ []) r.gives)) old mid (Some tt) → Gives (all_values (flat_map (given_over s σ ps t u) r.givealls)) mid new None → IsBody (body s σ r (map facts ts)) new None
 body_stops_later s σ r ts ps t u old mid new f g k =
     let xs = map (given s σ []) r.gives in
     let ys = flat_map (given_over s σ ps t u) r.givealls in
     let e = values_append old mid xs ys (values_from old mid xs g) ∙ values_not mid new ys k in
-    subst (λ o. IsBody o new false) (body_is s σ r ts ps t u f) (no_body old new (all_values (xs ++ ys)) e)
+    subst (λ o. IsBody o new None) (body_is s σ r ts ps t u f) (no_body old new (all_values (xs ++ ys)) e)
 
-pub body-ends : (s : System) (σ : Setting) (r : Rule) (ts : List (List Pair)) (ps : List Pair) (t u : Taken) (old mid new : Body) (a : Bool) → HasFacts [] old → Found ps ts t u →
-    Gives (all_values (map (given s σ []) r.gives)) old mid true → Gives (all_values (flat_map (given_over s σ ps t u) r.givealls)) mid new a → IsBody (body s σ r (map facts ts)) new a
-body-ends s σ r ts ps t u old mid new true h f g k = body-whole s σ r ts ps t u old mid new h f g k
-body-ends s σ r ts ps t u old mid new false h f g k = body_stops_later s σ r ts ps t u old mid new f g k
+pub body-ends : (s : System) (σ : Setting) (r : Rule) (ts : List (List Pair)) (ps : List Pair) (t u : Taken) (old mid new : Body) (a : Option (Unit {0})) → HasFacts [] old → Found ps ts t u →
+    Gives (all_values (map (given s σ []) r.gives)) old mid (Some tt) → Gives (all_values (flat_map (given_over s σ ps t u) r.givealls)) mid new a → IsBody (body s σ r (map facts ts)) new a
+body-ends s σ r ts ps t u old mid new (Some tt) h f g k = body-whole s σ r ts ps t u old mid new h f g k
+body-ends s σ r ts ps t u old mid new None h f g k = body_stops_later s σ r ts ps t u old mid new f g k
 
 -- what was given, counted
-pub gives-count : (old new : Body) (os : List (Option Fact)) → Gives (all_values os) old new true → new.count ≡ old.count + length os
+pub gives-count : (old new : Body) (os : List (Option Fact)) → Gives (all_values os) old new (Some tt) → new.count ≡ old.count + length os
 gives-count old new os g = values_count old new os (values_from old new os g)

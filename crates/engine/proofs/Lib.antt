@@ -22,3 +22,5 @@ pub mod ApplyWeighed
 pub mod ApplyBodies
 pub mod ApplyGone
 pub mod ApplyLabels
+pub mod Tests
+pub mod Rooms

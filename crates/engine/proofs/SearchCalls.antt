@@ -2,35 +2,29 @@
 use Rattle.std.proofs.Common.{◌≡◌, ℕ, suc, ◌+◌, ◌<◌, ◌≤◌, Bool, true, false, cond, ◌&&◌, ◌||◌, eqb, List, [], ◌∷◌, ◌++◌, length, get_or, set, take, drop, Some, None, Option, is_some, sym, refl, ap, subst, ◌∙◌, arith, add-one, length-set}
 use Rattle.std.proofs.lemmas.List.{take_more_set, at_drop_more, get_or-take, length-take-le}
 use Rattle.std.proofs.lemmas.Bool.{ne_eqb, eq-eqb, or_left, or_right}
+use Rattle.std.specs.Bool.{then_some}
 use Rattle.facts.specs.System.{System}
 use Rattle.facts.specs.declared.fact_types.Fact.{Fact}
 use Rattle.rules.specs.declared.rule_types.Pattern.{Pattern}
 use Rattle.rules.specs.declared.rule_types.RuleRecord.{RuleRecord}
-use Rattle.rules.specs.Rules.{Rule, rule_seen, all, Within}
+use Rattle.lists.specs.Held.{held}
+use Rattle.rules.specs.Rules.{Rule, rule_seen, all}
 use Rattle.rules.specs.Closed.{heads_of, accepted, rule_verdict, every_word}
 use Rattle.rules.proofs.Records.{singles-seen, singles-count}
 use Rattle.stores.specs.Lists.{has}
 use Rattle.stores.specs.Store.{Pair, labels, facts, read, next_that}
 use Rattle.engine.specs.declared.search.Choice.{Choice}
 use Rattle.machine.specs.Fitting.{holds, setting_of}
-use Rattle.engine.specs.Letters.{Letters, IsBound, unbound, setting_in, bind_fact}
+use Rattle.engine.specs.Letters.{Letters, unbound, setting_in, bind_fact}
 use Rattle.machine.specs.Machine.{chosen}
 use Rattle.engine.specs.Searching.{no_head, head_at, pairs_at, or_next, found_from, found_above, extended, IsExtended, IsFound, IsPartial, is_candidate, candidates_stand}
 use Rattle.engine.proofs.SearchOrder.{Rising}
 use Rattle.engine.proofs.SearchPartial.{labels-at, end-found, end-setting, placed_partial, placed-found, above-start, above-end, next-larger}
 use Rattle.engine.proofs.SearchSteps.{of_read, refused, taken, taken_partial, start-found, start_partial, unbound-chosen, lonely_chosen}
 
-pub bound-is : (o : Option Letters) (m : Letters) (b : Bool) → IsBound o m b → b ≡ true → o ≡ Some m
-bound-is None m b h e = let q = sym h ∙ e in cc
-bound-is (Some l) m b h e = ap Some (sym h.1)
-
-pub bound-not : (o : Option Letters) (m : Letters) (b : Bool) → IsBound o m b → b ≡ false → o ≡ None
-bound-not None m b h e = refl
-bound-not (Some l) m b h e = let q = sym h.0 ∙ e in cc
-
-pub extended-some : (ps : List Pair) (p : Pattern) (active : ℕ) (ls : List ℕ) (l : Letters) (n : ℕ) (f : Fact) (m : Letters) (b : Bool) → (n ≡ active → ⊥) → false ≡ has n ls → Some f ≡ read n ps → IsBound (bind_fact l p f) m b → b ≡ true → extended ps p active ls l n ≡ Some m
-extended-some ps p active ls l n f m b x y z h e =
-    (λ i. cond (ne_eqb n active x i || sym y i) None (of_read l p (sym z i))) ∙ bound-is (bind_fact l p f) m b h e
+pub extended-some : (ps : List Pair) (p : Pattern) (active : ℕ) (ls : List ℕ) (l : Letters) (n : ℕ) (f : Fact) (m : Letters) → (n ≡ active → ⊥) → false ≡ has n ls → Some f ≡ read n ps → bind_fact l p f ≡ Some m → extended ps p active ls l n ≡ Some m
+extended-some ps p active ls l n f m x y z e =
+    (λ i. cond (ne_eqb n active x i || sym y i) None (of_read l p (sym z i))) ∙ e
 
 pub longer : (o : Option Letters) (old : Choice) (at n : ℕ) (m : Letters) → o ≡ Some m → at < 4 → length old.labels ≡ 4 → IsExtended o old at n (Some (record { labels = set old.labels at n; letters = m }))
 longer o old at n m e h k =
@@ -38,21 +32,18 @@ longer o old at n m e h k =
     (refl, ap (λ (j : ℕ). take j (set old.labels at n)) (sym (add-one at)) ∙ take_more_set old.labels at n (omega arith), length-set old.labels at n ∙ k)
 
 -- heads with candidates are passed one by one
-module _ (ps : List Pair) (l : Letters) (place n : ℕ) (xs : List Pattern) (at : ℕ) (h : at < n) (k : n ≤ length xs) where
-  stand-more : (eqb at place || is_some (next_that (is_candidate l (get_or xs at no_head)) 0 ps)) ≡ true → candidates_stand ps l place at (drop at (take n xs)) ≡ candidates_stand ps l place (at + 1) (drop (at + 1) (take n xs))
+module _ (ps : List Pair) (l : Letters) (place : ℕ) (hs : List Pattern) (at : ℕ) (h : at < length hs) where
+  stand-more : (eqb at place || is_some (next_that (is_candidate l (get_or hs at no_head)) 0 ps)) ≡ true → candidates_stand ps l place at (drop at hs) ≡ candidates_stand ps l place (at + 1) (drop (at + 1) hs)
   stand-more e =
-      let hs = take n xs in
-      let there : get_or hs at no_head ≡ get_or xs at no_head = get_or-take n xs at no_head h in
-      at_drop_more (candidates_stand ps l place at) hs at no_head (omega (arith, length-take-le n xs k))
-      ∙ (ap (λ (p : Pattern). (eqb at place || is_some (next_that (is_candidate l p) 0 ps)) && candidates_stand ps l place (suc at) (drop (at + 1) hs)) there
+      at_drop_more (candidates_stand ps l place at) hs at no_head h
       ∙ (ap (λ (b : Bool). b && candidates_stand ps l place (suc at) (drop (at + 1) hs)) e
-      ∙ ap (λ (j : ℕ). candidates_stand ps l place j (drop (at + 1) hs)) (sym (add-one at))))
+      ∙ ap (λ (j : ℕ). candidates_stand ps l place j (drop (at + 1) hs)) (sym (add-one at)))
 
-  pub stand-here : (b : Bool) → b ≡ candidates_stand ps l place at (drop at (take n xs)) → at ≡ place → b ≡ candidates_stand ps l place (at + 1) (drop (at + 1) (take n xs))
-  stand-here b i e = i ∙ stand-more (or_left (eqb at place) (is_some (next_that (is_candidate l (get_or xs at no_head)) 0 ps)) (eq-eqb at place e))
+  pub stand-here : (b : Bool) → b ≡ candidates_stand ps l place at (drop at hs) → at ≡ place → b ≡ candidates_stand ps l place (at + 1) (drop (at + 1) hs)
+  stand-here b i e = i ∙ stand-more (or_left (eqb at place) (is_some (next_that (is_candidate l (get_or hs at no_head)) 0 ps)) (eq-eqb at place e))
 
-  pub stand-other : (b : Bool) → b ≡ candidates_stand ps l place at (drop at (take n xs)) → (o : Option ℕ) → o ≡ next_that (is_candidate l (get_or xs at no_head)) 0 ps → is_some o ≡ true → b ≡ candidates_stand ps l place (at + 1) (drop (at + 1) (take n xs))
-  stand-other b i o e t = i ∙ stand-more (or_right (eqb at place) (is_some (next_that (is_candidate l (get_or xs at no_head)) 0 ps)) (ap is_some (sym e) ∙ t))
+  pub stand-other : (b : Bool) → b ≡ candidates_stand ps l place at (drop at hs) → (o : Option ℕ) → o ≡ next_that (is_candidate l (get_or hs at no_head)) 0 ps → is_some o ≡ true → b ≡ candidates_stand ps l place (at + 1) (drop (at + 1) hs)
+  stand-other b i o e t = i ∙ stand-more (or_right (eqb at place) (is_some (next_that (is_candidate l (get_or hs at no_head)) 0 ps)) (ap is_some (sym e) ∙ t))
 
 -- what a longer choice is
 extended-parts : (o : Option Letters) (old : Choice) (at n : ℕ) (x : Choice) → IsExtended o old at n (Some x) → (o ≡ Some x.letters) × (take (at + 1) x.labels ≡ take at old.labels ++ (n ∷ []))
@@ -71,7 +62,7 @@ or-passed : (r : Rule) (o u v : Option (List Pair)) → o ≡ or_next u v → Is
 or-passed r o None v e h = e
 or-passed r o (Some c) v e h = elim h [ ]
 
-module _ (s : System) (rr : RuleRecord) (place active : ℕ) (ps : List Pair) (choice : Choice) (at : ℕ) (within : Within rr) (w : IsPartial ps (rule_seen rr) place active (take at choice.labels) choice.letters) (low : at ≤ rr.single_count) (long : length choice.labels ≡ 4) where
+module _ (s : System) (rr : RuleRecord) (place active : ℕ) (ps : List Pair) (choice : Choice) (at : ℕ) (w : IsPartial ps (rule_seen rr) place active (take at choice.labels) choice.letters) (low : at ≤ rr.singles.count) (long : length choice.labels ≡ 4) where
   abbrev r : Rule
   r = rule_seen rr
 
@@ -88,13 +79,13 @@ module _ (s : System) (rr : RuleRecord) (place active : ℕ) (ps : List Pair) (c
   found_over = found_above s (rule_seen rr) place active ps (take at choice.labels)
 
   count : length begins ≡ at
-  count = length-take-le at choice.labels (omega (arith, within.singles))
+  count = length-take-le at choice.labels (omega (arith, rr.singles.few))
 
-  heads : heads_of r ≡ rr.single_count
-  heads = singles-count rr within
+  heads : heads_of r ≡ rr.singles.count
+  heads = singles-count rr
 
   -- the end of the heads
-  pub end-some : rr.single_count ≤ at → true ≡ all (holds s (setting_in choice.letters) []) r.whens → IsFound r found (Some choice)
+  end-some : rr.singles.count ≤ at → true ≡ all (holds s (setting_in choice.letters) []) r.whens → IsFound r found (Some choice)
   end-some h e =
       let q : length begins ≡ heads_of r = omega (arith, count, heads) in
       let n : heads_of r ≡ at = omega (arith, count, heads) in
@@ -102,16 +93,20 @@ module _ (s : System) (rr : RuleRecord) (place active : ℕ) (ps : List Pair) (c
       subst (λ (o : Option (List Pair)). IsFound r o (Some choice)) (sym f)
       (ap (λ (j : ℕ). take j choice.labels) n ∙ sym (labels-at ps begins), end-setting s r place active ps begins choice.letters w q)
 
-  pub end-none : rr.single_count ≤ at → false ≡ all (holds s (setting_in choice.letters) []) r.whens → IsFound r found None
+  end-none : rr.singles.count ≤ at → false ≡ all (holds s (setting_in choice.letters) []) r.whens → IsFound r found None
   end-none h e =
       let q : length begins ≡ heads_of r = omega (arith, count, heads) in
       let f = end-found s r place active ps begins choice.letters w q ∙ ap (λ (b : Bool). cond b (Some (pairs_at ps begins)) None) (sym e) in
       subst (λ (o : Option (List Pair)). IsFound r o None) (sym f) tt
 
+  pub end-answer : rr.singles.count ≤ at → (b : Bool) → b ≡ all (holds s (setting_in choice.letters) []) r.whens → IsFound r found (then_some b choice)
+  end-answer h true e = end-some h e
+  end-answer h false e = end-none h e
+
   -- the place of the active label
-  module _ (e : at ≡ place) (h : at < rr.single_count) where
+  module _ (e : at ≡ place) (h : at < rr.singles.count) where
     one-more : take (at + 1) (set choice.labels at active) ≡ begins ++ (active ∷ [])
-    one-more = take_more_set choice.labels at active (omega (arith, within.singles))
+    one-more = take_more_set choice.labels at active (omega (arith, rr.singles.few))
 
     pub place_partial : IsPartial ps r place active (take (at + 1) (set choice.labels at active)) choice.letters
     place_partial =
@@ -124,19 +119,19 @@ module _ (s : System) (rr : RuleRecord) (place active : ℕ) (ps : List Pair) (c
         subst (λ (o : Option (List Pair)). IsFound r o x) (sym k) f
 
   -- another place
-  module _ (h : at < rr.single_count) (rise : Rising 0 ps) where
+  module _ (h : at < rr.singles.count) (rise : Rising 0 ps) where
     room : length begins < heads_of r
     room = omega (arith, count, heads)
 
-    pattern : head_at r (length begins) ≡ get_or rr.singles at no_head
+    pattern : head_at r (length begins) ≡ get_or rr.singles.items at no_head
     pattern =
         ap (head_at r) count
-        ∙ (ap (λ (hs : List Pattern). get_or hs at no_head) (singles-seen rr within) ∙ get_or-take rr.single_count rr.singles at no_head h)
+        ∙ (ap (λ (hs : List Pattern). get_or hs at no_head) (singles-seen rr) ∙ get_or-take rr.singles.count rr.singles.items at no_head h)
 
     pub loop_start : found ≡ found_over 0
     loop_start = above-start s r place active ps begins choice.letters w room rise
 
-    module _ (above : ℕ) (o : Option ℕ) (k : o ≡ next_that (is_candidate choice.letters (get_or rr.singles at no_head)) above ps) where
+    module _ (above : ℕ) (o : Option ℕ) (k : o ≡ next_that (is_candidate choice.letters (get_or rr.singles.items at no_head)) above ps) where
       seen-next : next_that (is_candidate choice.letters (head_at r (length begins))) above ps ≡ o
       seen-next = ap (λ (p : Pattern). next_that (is_candidate choice.letters p) above ps) pattern ∙ sym k
 
@@ -152,18 +147,18 @@ module _ (s : System) (rr : RuleRecord) (place active : ℕ) (ps : List Pair) (c
         apart : length begins ≡ place → ⊥
         apart q = other (sym count ∙ q)
 
-        seen-extended : {y : Option Letters} → extended ps (get_or rr.singles at no_head) active begins choice.letters n ≡ y → extended ps (head_at r (length begins)) active begins choice.letters n ≡ y
+        seen-extended : {y : Option Letters} → extended ps (get_or rr.singles.items at no_head) active begins choice.letters n ≡ y → extended ps (head_at r (length begins)) active begins choice.letters n ≡ y
         seen-extended q = ap (λ (p : Pattern). extended ps p active begins choice.letters n) pattern ∙ q
 
-        pub loop_refused : IsExtended (extended ps (get_or rr.singles at no_head) active begins choice.letters n) choice at n None →
+        pub loop_refused : IsExtended (extended ps (get_or rr.singles.items at no_head) active begins choice.letters n) choice at n None →
             found ≡ found_over above → found ≡ found_over n
         loop_refused x i =
             i ∙ refused s r place active ps begins choice.letters w room rise apart above n (seen-next ∙ e)
-            (seen-extended (extended-not (extended ps (get_or rr.singles at no_head) active begins choice.letters n) choice at n x))
+            (seen-extended (extended-not (extended ps (get_or rr.singles.items at no_head) active begins choice.letters n) choice at n x))
 
-        module _ (m : Choice) (x : IsExtended (extended ps (get_or rr.singles at no_head) active begins choice.letters n) choice at n (Some m)) where
-          parts : (extended ps (get_or rr.singles at no_head) active begins choice.letters n ≡ Some m.letters) × (take (at + 1) m.labels ≡ begins ++ (n ∷ []))
-          parts = extended-parts (extended ps (get_or rr.singles at no_head) active begins choice.letters n) choice at n m x
+        module _ (m : Choice) (x : IsExtended (extended ps (get_or rr.singles.items at no_head) active begins choice.letters n) choice at n (Some m)) where
+          parts : (extended ps (get_or rr.singles.items at no_head) active begins choice.letters n ≡ Some m.letters) × (take (at + 1) m.labels ≡ begins ++ (n ∷ []))
+          parts = extended-parts (extended ps (get_or rr.singles.items at no_head) active begins choice.letters n) choice at n m x
 
           pub loop_partial : IsPartial ps r place active (take (at + 1) m.labels) m.letters
           loop_partial =
@@ -190,32 +185,32 @@ module _ (s : System) (rr : RuleRecord) (place active : ℕ) (ps : List Pair) (c
 
 -- the whole search ------------------------------------------------------------------------------------------------------
 
-module _ (s : System) (rr : RuleRecord) (place active : ℕ) (ps : List Pair) (f : Fact) (within : Within rr) (h : place < rr.single_count) (stands : accepted (rule_verdict every_word (rule_seen rr)) ≡ true) (a : read active ps ≡ Some f) (rise : Rising 0 ps) where
+module _ (s : System) (rr : RuleRecord) (place active : ℕ) (ps : List Pair) (f : Fact) (h : place < rr.singles.count) (stands : accepted (rule_verdict every_word (rule_seen rr)) ≡ true) (a : read active ps ≡ Some f) (rise : Rising 0 ps) where
   abbrev rule : Rule
   rule = rule_seen rr
 
   place_in : place < heads_of rule
-  place_in = omega (arith, singles-count rr within)
+  place_in = omega (arith, singles-count rr)
 
-  first-head : head_at rule place ≡ get_or rr.singles place no_head
-  first-head = ap (λ (hs : List Pattern). get_or hs place no_head) (singles-seen rr within) ∙ get_or-take rr.single_count rr.singles place no_head h
+  first-head : head_at rule place ≡ get_or rr.singles.items place no_head
+  first-head = ap (λ (hs : List Pattern). get_or hs place no_head) (singles-seen rr) ∙ get_or-take rr.singles.count rr.singles.items place no_head h
 
-  module _ (m : Letters) (b : Bool) (i : IsBound (bind_fact unbound (get_or rr.singles place no_head) f) m b) where
-    first-bound : b ≡ true → bind_fact unbound (head_at rule place) f ≡ Some m
-    first-bound e = ap (λ (p : Pattern). bind_fact unbound p f) first-head ∙ bound-is (bind_fact unbound (get_or rr.singles place no_head) f) m b i e
+  pub search_unbound : bind_fact unbound (get_or rr.singles.items place no_head) f ≡ None → IsFound rule (chosen s rule place active ps) None
+  search_unbound e =
+      let k = unbound-chosen s rule place active ps rise place_in stands f a (ap (λ (p : Pattern). bind_fact unbound p f) first-head ∙ e) in
+      subst (λ (o : Option (List Pair)). IsFound rule o None) (sym k) tt
 
-    pub search_unbound : b ≡ false → IsFound rule (chosen s rule place active ps) None
-    search_unbound e =
-        let k = unbound-chosen s rule place active ps rise place_in stands f a (ap (λ (p : Pattern). bind_fact unbound p f) first-head ∙ bound-not (bind_fact unbound (get_or rr.singles place no_head) f) m b i e) in
+  module _ (m : Letters) (e : bind_fact unbound (get_or rr.singles.items place no_head) f ≡ Some m) where
+    first-bound : bind_fact unbound (head_at rule place) f ≡ Some m
+    first-bound = ap (λ (p : Pattern). bind_fact unbound p f) first-head ∙ e
+
+    pub search_lonely : candidates_stand ps m place 0 (held rr.singles) ≡ false → IsFound rule (chosen s rule place active ps) None
+    search_lonely c =
+        let k = lonely_chosen s rule place active ps rise place_in stands f a m first-bound (ap (candidates_stand ps m place 0) (singles-seen rr) ∙ c) in
         subst (λ (o : Option (List Pair)). IsFound rule o None) (sym k) tt
 
-    pub search_lonely : b ≡ true → candidates_stand ps m place 0 (take rr.single_count rr.singles) ≡ false → IsFound rule (chosen s rule place active ps) None
-    search_lonely e c =
-        let k = lonely_chosen s rule place active ps rise place_in stands f a m (first-bound e) (ap (candidates_stand ps m place 0) (singles-seen rr within) ∙ c) in
-        subst (λ (o : Option (List Pair)). IsFound rule o None) (sym k) tt
-
-    pub search_partial : b ≡ true → IsPartial ps rule place active [] m
-    search_partial e = start_partial s rule place active ps rise place_in stands f a m (first-bound e)
+    pub search_partial : IsPartial ps rule place active [] m
+    search_partial = start_partial s rule place active ps rise place_in stands f a m first-bound
 
   pub search_found : (x : Option Choice) → IsFound rule (found_from s rule place active ps []) x → IsFound rule (chosen s rule place active ps) x
   search_found x k = subst (λ (o : Option (List Pair)). IsFound rule o x) (start-found s rule place active ps rise) k

@@ -3,8 +3,9 @@ use Rattle.std.proofs.Common.{◌≡◌, ℕ, zero, suc, ◌+◌, ◌-◌, ◌<�
 use Rattle.std.proofs.Math.Seq.{drop-cons}
 use Rattle.std.proofs.Math.Numerals.{add-one}
 use Rattle.std.proofs.lemmas.Bool.Decides.{nat_tests}
-use Rattle.std.proofs.lemmas.Bool.{and_parts}
-use Rattle.std.proofs.lemmas.List.{length-map}
+use Rattle.std.proofs.lemmas.Bool.{and_parts, and_from}
+use Rattle.std.proofs.lemmas.List.{length-map, append_assoc, append-nil, map-append}
+use Rattle.std.proofs.lemmas.List.Elements.{filter-append}
 use Rattle.facts.specs.declared.fact_types.Fact.{Fact}
 use Rattle.rules.specs.Rules.{Rule, all}
 use Rattle.rules.specs.Closed.{watched}
@@ -84,20 +85,6 @@ pub seen_and_unseen : (rs : List Rule) (fs : List Fact) → length (seen rs fs) 
 seen_and_unseen rs [] = refl
 seen_and_unseen rs (f ∷ fs) = let ih = seen_and_unseen rs fs in grind (arith, nat_tests)
 
-unseen_drop : (rs : List Rule) (fs : List Fact) (i : ℕ) → length (unseen rs (drop i fs)) ≤ length (unseen rs fs)
-unseen_drop rs [] zero = omega arith
-unseen_drop rs [] (suc i) = omega arith
-unseen_drop rs (f ∷ fs) zero = omega arith
-unseen_drop rs (f ∷ fs) (suc i) = let ih = unseen_drop rs fs i in grind (arith, nat_tests)
-
-pub unseen_room : (rs : List Rule) (fs : List Fact) (i : ℕ) (d : Fact) → i < length fs → watched rs (get_or fs i d) ≡ false → suc (length (unseen rs (drop (i + 1) fs))) ≤ length (unseen rs fs)
-unseen_room rs fs i d h w =
-    let le = unseen_drop rs fs i in
-    let e : unseen rs (drop i fs) ≡ get_or fs i d ∷ unseen rs (drop (i + 1) fs) =
-    rw (add-one, drop-cons fs i d h) (ap (λ b. cond (not b) (get_or fs i d ∷ unseen rs (drop (suc i) fs)) (unseen rs (drop (suc i) fs))) w) in
-    let count : length (unseen rs (drop i fs)) ≡ suc (length (unseen rs (drop (i + 1) fs))) = ap length e in
-    omega (arith, le, count)
-
 pub length-numbered : (l : ℕ) (fs : List Fact) → length (numbered l fs) ≡ length fs
 length-numbered l [] = refl
 length-numbered l (f ∷ fs) = ap suc (length-numbered (suc l) fs)
@@ -110,14 +97,51 @@ length-looks_from : (l n : ℕ) → length (looks_from l n) ≡ n
 length-looks_from l zero = refl
 length-looks_from l (suc n) = ap suc (length-looks_from (suc l) n)
 
--- there is room for one fact more that waits
-pub wait_fits : (rs : List Rule) (fs : List Fact) (i : ℕ) (d : Fact) (goals was : List Goal) → 0 < i → i ≤ length fs → watched rs (get_or fs (i - 1) d) ≡ false → goals ≡ map Wait (unseen rs (drop i fs)) ++ was → length was + length (unseen rs fs) ≤ 512 → length goals < 512
-wait_fits rs fs zero d goals was h k w e room = absurd (omega arith)
-wait_fits rs fs (suc i) d goals was h k w e room =
-    let back : suc i - 1 ≡ i = omega arith in
-    let more : suc (length (unseen rs (drop (suc i) fs))) ≤ length (unseen rs fs) = simp add-one at (unseen_room rs fs i d (omega arith) (rw back at w)) in
-    let count : length goals ≡ length (unseen rs (drop (suc i) fs)) + length was = ap length e ∙ simp (length-append, length-map) in
-    omega (arith, more, count)
+-- facts are pushed from the last on, and these are left
+pub record IsWaiting (rs : List Rule) (fs rest : List Fact) (was now : List Goal) : Type 0 where
+  pub kinds : all has_kind rest ≡ true
+  pub goals : map Wait (unseen rs rest) ++ now ≡ map Wait (unseen rs fs) ++ was
+
+all-front : (xs : List Fact) (x : Fact) → all has_kind (xs ++ x ∷ []) ≡ true → (all has_kind xs ≡ true) × (has_kind x ≡ true)
+all-front [] x h = (refl, (and_parts (has_kind x) true h).0)
+all-front (y ∷ xs) x h =
+    let a = and_parts (has_kind y) (all has_kind (xs ++ x ∷ [])) h in
+    let ih = all-front xs x a.1 in
+    (and_from (has_kind y) (all has_kind xs) a.0 ih.0, ih.1)
+
+module _ (rs : List Rule) (fs all' rest : List Fact) (x : Fact) (was now : List Goal) (e : all' ≡ rest ++ x ∷ []) (w : IsWaiting rs fs all' was now) where
+  kinds-front : (all has_kind rest ≡ true) × (has_kind x ≡ true)
+  kinds-front = all-front rest x (ap (all has_kind) (sym e) ∙ w.kinds)
+
+  pub wait_kind : has_kind x ≡ true
+  wait_kind = kinds-front.1
+
+  parts : unseen rs all' ≡ unseen rs rest ++ cond (not (watched rs x)) (x ∷ []) []
+  parts = ap (unseen rs) e ∙ filter-append (λ f. not (watched rs f)) rest (x ∷ [])
+
+  pub wait_same : watched rs x ≡ true → IsWaiting rs fs rest was now
+  wait_same h =
+      let q : unseen rs all' ≡ unseen rs rest = parts ∙ (ap (λ b. unseen rs rest ++ cond (not b) (x ∷ []) []) h ∙ append-nil (unseen rs rest)) in
+      record { kinds = kinds-front.0; goals = ap (λ gs. map Wait gs ++ now) (sym q) ∙ w.goals }
+
+  module _ (h : watched rs x ≡ false) where
+    one : unseen rs all' ≡ unseen rs rest ++ (x ∷ [])
+    one = parts ∙ ap (λ b. unseen rs rest ++ cond (not b) (x ∷ []) []) h
+
+    pub wait_more : IsWaiting rs fs rest was (Wait x ∷ now)
+    wait_more = record {
+      kinds = kinds-front.0;
+      goals =
+          sym (append_assoc (map Wait (unseen rs rest)) (Wait x ∷ []) now)
+          ∙ (ap (λ gs. gs ++ now) (sym (map-append Wait (unseen rs rest) (x ∷ [])) ∙ ap (map Wait) (sym one)) ∙ w.goals);
+    }
+
+    pub wait_fits : length was + length (unseen rs fs) ≤ 512 → length now < 512
+    wait_fits room =
+        let many : length (unseen rs all') ≡ length (unseen rs rest) + 1 = ap length one ∙ length-append (unseen rs rest) (x ∷ []) in
+        let count : length (map Wait (unseen rs all')) + length now ≡ length (map Wait (unseen rs fs)) + length was =
+        sym (length-append (map Wait (unseen rs all')) now) ∙ (ap length w.goals ∙ length-append (map Wait (unseen rs fs)) was) in
+        omega (arith, room, many, count, length-map (unseen rs all') Wait, length-map (unseen rs fs) Wait)
 
 -- there is room for the facts that wait
 pub waits_fit : (rs : List Rule) (fs : List Fact) (first last : ℕ) (goals was now : List Goal) → last ≡ first + length (seen rs fs) → was ≡ goals → now ≡ looks_from first (last - first) ++ was → length goals + length fs ≤ 512 → length now + length (unseen rs fs) ≤ 512

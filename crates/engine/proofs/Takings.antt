@@ -1,7 +1,7 @@
 -- What an all head takes of stored pairs, label by label.
-use Rattle.std.proofs.Common.{◌≡◌, ℕ, zero, suc, ◌+◌, ◌<◌, ◌≤◌, Bool, true, false, cond, not, ◌&&◌, eqb, leb, List, [], ◌∷◌, ◌++◌, map, length, get_or, take, drop, set, flat_map, ℤ, pos, negsuc, Some, None, filter, Option, sym, refl, ap, ◌∙◌, subst, arith}
+use Rattle.std.proofs.Common.{◌≡◌, ℕ, zero, suc, ◌+◌, ◌<◌, ◌≤◌, Bool, true, false, cond, not, ◌&&◌, eqb, leb, List, [], ◌∷◌, ◌++◌, map, length, get_or, take, drop, flat_map, ℤ, pos, negsuc, Some, None, filter, Option, sym, refl, ap, ◌∙◌, arith}
 use Rattle.std.proofs.lemmas.Bool.{and_parts, eqb-true}
-use Rattle.std.proofs.lemmas.List.{get_or-map, get_or-take, length-take-le, length-append, length-map, length_push, length-drop, map-append, append-nil, take_more_set, length-set, get_or_past}
+use Rattle.std.proofs.lemmas.List.{get_or_default, get_or-map, get_or-take, length-take-le, length-append, length-map, length_push, length-drop, map-append, append-nil, get_or_past}
 use Rattle.std.proofs.lemmas.Bool.Decides.{nat_tests}
 use Rattle.facts.specs.System.{System}
 use Rattle.facts.specs.declared.fact_types.Fact.{Fact}
@@ -9,7 +9,12 @@ use Rattle.rules.specs.declared.rule_types.Argument.{Argument}
 use Rattle.rules.specs.declared.rule_types.Argument.TheVariants.{Letter, Constant, Any}
 use Rattle.rules.specs.declared.rule_types.Pattern.{Pattern}
 use Rattle.rules.specs.declared.rule_types.AllRecord.{AllRecord}
-use Rattle.rules.specs.Rules.{AllHead, Rule, all_seen, rule_seen, singles, Within}
+use Rattle.rules.specs.declared.rule_types.Comparison.{Comparison}
+use Rattle.rules.specs.declared.rule_types.Term.TheVariants.{One}
+use Rattle.rules.specs.declared.rule_types.Operand.TheVariants as operand
+use Rattle.facts.specs.declared.fact_types.Relation.TheVariants.{Equal}
+use Rattle.rules.proofs.Records.{alls-count}
+use Rattle.rules.specs.Rules.{AllHead, Rule, all_seen, rule_seen, singles}
 use Rattle.rules.specs.declared.rule_types.RuleRecord.{RuleRecord}
 use Rattle.rules.specs.Rules as rules_specs
 use Rattle.stores.specs.Lists.{all, has, rises}
@@ -17,11 +22,10 @@ use Rattle.stores.specs.Store.{Pair, label, fact, labels, read, next_that, same�
 use Rattle.stores.specs.Piles.{Pile, Owed, sound_pair}
 use Rattle.stores.proofs.Piles.{owed-rises}
 use Rattle.stores.proofs.Pairs.{above, all_above, next-above, length-kept}
-use Rattle.engine.specs.declared.taking.Taken.{Taken}
 use Rattle.machine.specs.Fitting.{Setting, fits_words, fits, holds, fits_all_head, setting_of}
 use Rattle.engine.specs.Letters.{Letters, setting_in}
 use Rattle.engine.specs.Searching.{known_word, of_kind_and, is_candidate}
-use Rattle.engine.specs.Taking.{takes, taken_at, takes_label, all_taken, Took, gone_at, gone_number}
+use Rattle.engine.specs.Taking.{takes, taken_at, takes_label, all_taken, Taken, taken_labels, Took, gone_at, gone_number}
 use Rattle.machine.specs.Machine.{taken_by, taken_of, gone_alls, gone_of}
 
 -- the pairs that pass, up to a label
@@ -116,27 +120,10 @@ owed-sound m o = grind (arith, nat_tests)
 pub owed-length : (m : Pile) → Owed m → length m.pairs ≤ 1024
 owed-length m o = grind (arith, nat_tests)
 
--- an array that is filled label by label --------------------------------------------------------------------------
+-- a list that is filled label by label --------------------------------------------------------------------------------
 
-pub record Filled (t : Taken) (ls : List ℕ) : Type 0 where
-  pub wide : length t.labels ≡ 1024
-  pub bound : t.count ≤ 1024
-  pub held : take t.count t.labels ≡ ls
-
-pub filled-count : (t : Taken) (ls : List ℕ) → Filled t ls → t.count ≡ length ls
-filled-count t ls f =
-    let h : t.count ≤ length t.labels = omega (arith, f.wide, f.bound) in
-    sym (length-take-le t.count t.labels h) ∙ ap length f.held
-
-filled_more : (t : Taken) (ls : List ℕ) (n : ℕ) → Filled t ls → length ls < 1024 → Filled (record { labels = set t.labels t.count n; count = t.count + 1 }) (ls ++ n ∷ [])
-filled_more t ls n f h =
-    let e = filled-count t ls f in
-    let k : t.count < length t.labels = omega (arith, f.wide, e) in
-    record {
-      wide = length-set t.labels t.count n ∙ f.wide;
-      bound = omega (arith, e);
-      held = take_more_set t.labels t.count n k ∙ ap (λ xs. xs ++ n ∷ []) f.held;
-    }
+took-count : (t : Taken) → t.count ≡ length (taken_labels t)
+took-count t = sym (length-take-le t.count t.items (omega (arith, t.few, t.long)))
 
 -- what the all head at an index takes, up to a label
 abbrev pub taken_to : System → Letters → List AllHead → ℕ → List ℕ → ℕ → List Pair → List ℕ
@@ -145,33 +132,38 @@ taken_to s l as' i ls a ps = labels (filter (passed_to a (λ n. has n ls) (takes
 pub taken_to-first : (s : System) (l : Letters) (as' : List AllHead) (i : ℕ) (ls : List ℕ) (m : Pile) → Owed m → taken_to s l as' i ls 0 m.pairs ≡ []
 taken_to-first s l as' i ls m o = ap labels (passed_none (λ n. has n ls) (takes s (setting_in l) as' i) m.pairs (owed-sound m o))
 
+abbrev pub no_comparison : Comparison
+no_comparison = record { left = One (operand.Constant (pos 0)); relation = Equal; right = One (operand.Constant (pos 0)) }
+
 -- an all head that is not there
 abbrev pub no_all : AllRecord
-no_all = record { drops = false; pattern = record { kind = 0; args = [] }; only = []; only_count = 0 }
+no_all = record { drops = false; pattern = record { kind = 0; args = [] }; only = record { items = no_comparison ∷ (no_comparison ∷ []); count = 0; long = refl; few = omega arith } }
 
 -- after a label, the next that may fit the all head at an index of a rule
 abbrev pub next_for : Letters → RuleRecord → ℕ → ℕ → List Pair → Option ℕ
-next_for l r i = next_that (is_candidate l (get_or r.alls i no_all).pattern)
+next_for l r i = next_that (is_candidate l (get_or r.alls.items i no_all).pattern)
+
+pub next_for_at : (l : Letters) (r : RuleRecord) (i a : ℕ) (ps : List Pair) (d : AllRecord) → i < r.alls.count → next_that (is_candidate l (get_or r.alls.items i d).pattern) a ps ≡ next_for l r i a ps
+next_for_at l r i a ps d h = ap (λ (x : AllRecord). next_that (is_candidate l x.pattern) a ps) (get_or_default r.alls.items i d no_all (omega (arith, r.alls.few, r.alls.long)))
 
 pub record Step (l : Letters) (r : RuleRecord) (i : ℕ) (m : Pile) (a n : ℕ) : Type 0 where
-  pub within : Within r
-  pub head : i < r.all_count
+  pub head : i < r.alls.count
   pub owed : Owed m
   pub next : Some n ≡ next_for l r i a m.pairs
 
 -- what it takes is a candidate
-takes_next : (s : System) (l : Letters) (r : RuleRecord) (i : ℕ) → Within r → i < r.all_count → (f : Fact) → takes s (setting_in l) (rule_seen r).alls i f ≡ true → is_candidate l (get_or r.alls i no_all).pattern f ≡ true
-takes_next s l r i w h =
-    let b : r.all_count ≤ length r.alls = omega (arith, w.alls, w.long_alls) in
-    takes_candidate s l (rule_seen r).alls i (all_seen no_all) (get_or r.alls i no_all).pattern (seen_pattern r.alls r.all_count i no_all h b)
+takes_next : (s : System) (l : Letters) (r : RuleRecord) (i : ℕ) → i < r.alls.count → (f : Fact) → takes s (setting_in l) (rule_seen r).alls i f ≡ true → is_candidate l (get_or r.alls.items i no_all).pattern f ≡ true
+takes_next s l r i h =
+    let b : r.alls.count ≤ length r.alls.items = omega (arith, r.alls.few, r.alls.long) in
+    takes_candidate s l (rule_seen r).alls i (all_seen no_all) (get_or r.alls.items i no_all).pattern (seen_pattern r.alls.items r.alls.count i no_all h b)
 
 pub step_up : {l : Letters} {r : RuleRecord} {i : ℕ} {m : Pile} {a n : ℕ} → Step l r i m a n → a < n
-step_up {l} {r} {i} {m} {a} {n} t = next_passes (is_candidate l (get_or r.alls i no_all).pattern) a m.pairs n (sym t.next)
+step_up {l} {r} {i} {m} {a} {n} t = next_passes (is_candidate l (get_or r.alls.items i no_all).pattern) a m.pairs n (sym t.next)
 
 taken_to-more : (s : System) (ls : List ℕ) {l : Letters} {r : RuleRecord} {i : ℕ} {m : Pile} {a n : ℕ} → Step l r i m a n → (answer b : Bool) → answer ≡ takes_label s (setting_in l) (rule_seen r).alls i ls m.pairs n → answer ≡ b →
     taken_to s l (rule_seen r).alls i ls n m.pairs ≡ taken_to s l (rule_seen r).alls i ls a m.pairs ++ cond b (n ∷ []) []
 taken_to-more s ls {l} {r} {i} {m} {a} {n} t answer b e h =
-    passed_more (is_candidate l (get_or r.alls i no_all).pattern) (λ x. has x ls) (takes s (setting_in l) (rule_seen r).alls i) a n m.pairs (takes_next s l r i t.within t.head) (owed-rises m t.owed) (sym t.next)
+    passed_more (is_candidate l (get_or r.alls.items i no_all).pattern) (λ x. has x ls) (takes s (setting_in l) (rule_seen r).alls i) a n m.pairs (takes_next s l r i t.head) (owed-rises m t.owed) (sym t.next)
     ∙ ap (λ x. taken_to s l (rule_seen r).alls i ls a m.pairs ++ cond x (n ∷ []) []) (sym e ∙ h)
 
 pub taken_to_room : (s : System) (ls : List ℕ) {l : Letters} {r : RuleRecord} {i : ℕ} {m : Pile} {a n : ℕ} → Step l r i m a n → (answer : Bool) → answer ≡ takes_label s (setting_in l) (rule_seen r).alls i ls m.pairs n → answer ≡ true →
@@ -181,21 +173,20 @@ taken_to_room s ls {l} {r} {i} {m} {a} {n} t answer e h =
     let test : Pair → Bool = passed_to n (λ x. has x ls) (takes s (setting_in l) (rule_seen r).alls i) in
     omega (arith, ap length q, length_push (taken_to s l (rule_seen r).alls i ls a m.pairs) n, length-map (filter test m.pairs) label, length-kept test m.pairs, owed-length m t.owed)
 
-pub filled-yes : (s : System) (ls : List ℕ) {l : Letters} {r : RuleRecord} {i : ℕ} {m : Pile} {a n : ℕ} → Step l r i m a n → (answer : Bool) → answer ≡ takes_label s (setting_in l) (rule_seen r).alls i ls m.pairs n → answer ≡ true → (t : Taken) →
-    Filled t (taken_to s l (rule_seen r).alls i ls a m.pairs) → Filled (record { labels = set t.labels t.count n; count = t.count + 1 }) (taken_to s l (rule_seen r).alls i ls n m.pairs)
-filled-yes s ls {l} {r} {i} {m} {a} {n} st answer e h t f =
-    subst (Filled (record { labels = set t.labels t.count n; count = t.count + 1 })) (sym (taken_to-more s ls st answer true e h))
-    (filled_more t (taken_to s l (rule_seen r).alls i ls a m.pairs) n f (taken_to_room s ls st answer e h))
+pub filled-yes : (s : System) (ls : List ℕ) {l : Letters} {r : RuleRecord} {i : ℕ} {m : Pile} {a n : ℕ} → Step l r i m a n → (answer : Bool) → answer ≡ takes_label s (setting_in l) (rule_seen r).alls i ls m.pairs n → answer ≡ true → (xs ys : List ℕ) →
+    xs ≡ taken_to s l (rule_seen r).alls i ls a m.pairs → ys ≡ xs ++ n ∷ [] → ys ≡ taken_to s l (rule_seen r).alls i ls n m.pairs
+filled-yes s ls {l} {r} {i} {m} {a} {n} st answer e h xs ys f g =
+    g ∙ (ap (λ zs. zs ++ n ∷ []) f ∙ sym (taken_to-more s ls st answer true e h))
 
-pub filled-no : (s : System) (ls : List ℕ) {l : Letters} {r : RuleRecord} {i : ℕ} {m : Pile} {a n : ℕ} → Step l r i m a n → (answer : Bool) → answer ≡ takes_label s (setting_in l) (rule_seen r).alls i ls m.pairs n → answer ≡ false → (t : Taken) →
-    Filled t (taken_to s l (rule_seen r).alls i ls a m.pairs) → Filled t (taken_to s l (rule_seen r).alls i ls n m.pairs)
-filled-no s ls {l} {r} {i} {m} {a} {n} st answer e h t f =
-    subst (Filled t) (sym (taken_to-more s ls st answer false e h ∙ append-nil (taken_to s l (rule_seen r).alls i ls a m.pairs))) f
+pub filled-no : (s : System) (ls : List ℕ) {l : Letters} {r : RuleRecord} {i : ℕ} {m : Pile} {a n : ℕ} → Step l r i m a n → (answer : Bool) → answer ≡ takes_label s (setting_in l) (rule_seen r).alls i ls m.pairs n → answer ≡ false → (xs : List ℕ) →
+    xs ≡ taken_to s l (rule_seen r).alls i ls a m.pairs → xs ≡ taken_to s l (rule_seen r).alls i ls n m.pairs
+filled-no s ls {l} {r} {i} {m} {a} {n} st answer e h xs f =
+    f ∙ sym (taken_to-more s ls st answer false e h ∙ append-nil (taken_to s l (rule_seen r).alls i ls a m.pairs))
 
-pub filled-all : (s : System) (l : Letters) (r : RuleRecord) (i : ℕ) (ls : List ℕ) (m : Pile) (a : ℕ) → Within r → i < r.all_count → None ≡ next_for l r i a m.pairs → (t : Taken) →
-    Filled t (taken_to s l (rule_seen r).alls i ls a m.pairs) → take t.count t.labels ≡ labels (taken_at s (setting_in l) (rule_seen r).alls i ls m.pairs)
-filled-all s l r i ls m a w h e t f =
-    f.held ∙ ap labels (passed_all (is_candidate l (get_or r.alls i no_all).pattern) (λ x. has x ls) (takes s (setting_in l) (rule_seen r).alls i) a m.pairs (takes_next s l r i w h) (sym e))
+pub filled-all : (s : System) (l : Letters) (r : RuleRecord) (i : ℕ) (ls : List ℕ) (m : Pile) (a : ℕ) → i < r.alls.count → None ≡ next_for l r i a m.pairs → (xs : List ℕ) →
+    xs ≡ taken_to s l (rule_seen r).alls i ls a m.pairs → xs ≡ labels (taken_at s (setting_in l) (rule_seen r).alls i ls m.pairs)
+filled-all s l r i ls m a h e xs f =
+    f ∙ ap labels (passed_all (is_candidate l (get_or r.alls.items i no_all).pattern) (λ x. has x ls) (takes s (setting_in l) (rule_seen r).alls i) a m.pairs (takes_next s l r i h) (sym e))
 
 -- what all heads take, each in turn of what the earlier ones left --------------------------------------------------
 
@@ -230,26 +221,23 @@ together_two f (t ∷ []) e h = rw e refl
 together_two f (t ∷ (u ∷ [])) e h = ap (λ xs. f t ++ xs) (sym (append-nil (f u)))
 together_two f (t ∷ (u ∷ (v ∷ ts))) e h = absurd (omega arith)
 
-pub took_from : (s : System) (σ : Setting) (r : Rule) (ls : List ℕ) (ps : List Pair) (i : ℕ) (t : Taken) → length t.labels ≡ 1024 → t.count ≤ 1024 → take t.count t.labels ≡ labels (taken_at s σ r.alls i ls ps) → Took (get_or (all_taken s σ r ls ps) i []) t
-took_from s σ r ls ps i t w b e =
-    let h : t.count ≤ length t.labels = omega (arith, w, b) in
-    let d : take t.count t.labels ≡ labels (get_or (all_taken s σ r ls ps) i []) = e ∙ ap labels (sym (all_taken-at s σ r ls ps i)) in
+pub took_from : (s : System) (σ : Setting) (r : Rule) (ls : List ℕ) (ps : List Pair) (i : ℕ) (t : Taken) → taken_labels t ≡ labels (taken_at s σ r.alls i ls ps) → Took (get_or (all_taken s σ r ls ps) i []) t
+took_from s σ r ls ps i t e =
+    let d : taken_labels t ≡ labels (get_or (all_taken s σ r ls ps) i []) = e ∙ ap labels (sym (all_taken-at s σ r ls ps i)) in
     record {
       held = d;
-      count = sym (length-take-le t.count t.labels h) ∙ (ap length d ∙ length-map (get_or (all_taken s σ r ls ps) i []) label);
-      bound = b;
+      count = took-count t ∙ (ap length d ∙ length-map (get_or (all_taken s σ r ls ps) i []) label);
     }
 
-pub took_none : (t : Taken) (ts : List (List Pair)) (i : ℕ) → t.count ≡ 0 → length ts ≤ i → Took (get_or ts i []) t
+pub took_none : (t : Taken) (ts : List (List Pair)) (i : ℕ) → taken_labels t ≡ [] → length ts ≤ i → Took (get_or ts i []) t
 took_none t ts i c h =
     let e = get_or_past ts i [] h in
     record {
-      held = ap (λ n. take n t.labels) c ∙ ap labels (sym e);
-      count = c ∙ ap length (sym e);
-      bound = omega arith;
+      held = c ∙ ap labels (sym e);
+      count = took-count t ∙ (ap length c ∙ ap length (sym e));
     }
 
-pub together-took : (t u : Taken) (ts : List (List Pair)) → length ts ≤ 2 → Took (get_or ts 0 []) t → Took (get_or ts 1 []) u → take t.count t.labels ++ take u.count u.labels ≡ flat_map labels ts
+pub together-took : (t u : Taken) (ts : List (List Pair)) → length ts ≤ 2 → Took (get_or ts 0 []) t → Took (get_or ts 1 []) u → taken_labels t ++ taken_labels u ≡ flat_map labels ts
 together-took t u ts h k l = (λ i. k.held i ++ l.held i) ∙ together_two labels ts refl h
 
 -- what leaves
@@ -274,16 +262,20 @@ gone_number_of r c ts e h l =
     go (a ∷ (b ∷ (d ∷ as'))) us e h = absurd (omega arith)
 
 -- the all heads of a record
-pub heads_long : (s : System) (σ : Setting) (r : RuleRecord) (ls : List ℕ) (ps : List Pair) → Within r → length (all_taken s σ (rule_seen r) ls ps) ≡ r.all_count
-heads_long s σ r ls ps w =
-    let h : r.all_count ≤ length r.alls = omega (arith, w.alls, w.long_alls) in
-    length-taken_by s σ (rule_seen r).alls (without ls ps) ∙ (length-map (take r.all_count r.alls) all_seen ∙ length-take-le r.all_count r.alls h)
+pub heads_long : (s : System) (σ : Setting) (r : RuleRecord) (ls : List ℕ) (ps : List Pair) → length (all_taken s σ (rule_seen r) ls ps) ≡ r.alls.count
+heads_long s σ r ls ps = length-taken_by s σ (rule_seen r).alls (without ls ps) ∙ alls-count r
 
 pub gone_past : (rs : List AllRecord) (k i n : ℕ) → k ≤ i → gone_at (map all_seen (take k rs)) i n ≡ 0
 gone_past rs zero i n h = refl
 gone_past [] (suc k) i n h = refl
 gone_past (r ∷ rs) (suc k) zero n h = absurd (omega arith)
 gone_past (r ∷ rs) (suc k) (suc i) n h = gone_past rs k i n (omega arith)
+
+pub gone_there : (rs : List AllRecord) (k i n : ℕ) (d : AllRecord) → i < k → k ≤ length rs → gone_at (map all_seen (take k rs)) i n ≡ cond (get_or rs i d).drops n 0
+gone_there rs zero i n d h l = absurd (omega arith)
+gone_there [] (suc k) i n d h l = absurd (omega arith)
+gone_there (r ∷ rs) (suc k) zero n d h l = refl
+gone_there (r ∷ rs) (suc k) (suc i) n d h l = gone_there rs k i n d (omega arith) (omega arith)
 
 pub gone_number-gone : (s : System) (r : Rule) (ps c : List Pair) → length r.alls ≤ 2 → length c ≡ length (singles r) →
     gone_number r (length (get_or (taken_of s r ps c) 0 [])) (length (get_or (taken_of s r ps c) 1 [])) ≡ length (gone_of s r ps c)

@@ -14,12 +14,11 @@ use Rattle.machine.specs.Faults.{short_step}
 use Rattle.machine.specs.Machine.{Frame, State, gone_alls, taken_of, gone_of, given_of, shortage}
 use Rattle.engine.specs.declared.body_type.Body.{Body}
 use Rattle.engine.specs.declared.search.Choice.{Choice}
-use Rattle.engine.specs.declared.taking.Taken.{Taken}
 use Rattle.engine.specs.declared.taking.AllTaken.{AllTaken}
 use Rattle.engine.specs.declared.applying.Weighed.{Weighed}
 use Rattle.engine.specs.Bringing.{has_kind}
 use Rattle.engine.specs.Goals.{below}
-use Rattle.engine.specs.Taking.{Took}
+use Rattle.engine.specs.Taking.{taken_labels, Took}
 
 -- the labels of the facts that leave, of those of the single heads and of what the first and the second all head took
 abbrev pub gone_labels : Rule → List ℕ → List ℕ → List ℕ → List ℕ
@@ -42,10 +41,7 @@ place_at rs h = record { rule = rule_at rs h; number = suc h.rule; place = h.pla
 abbrev pub choice_in : Option (List Pair) → List Pair
 choice_in o = unwrap_or o []
 
--- the labels that an all head took, those of all facts that an application uses, and those of the facts that leave
-abbrev pub taken_labels : Taken → List ℕ
-taken_labels t = take t.count t.labels
-
+-- the labels of all facts that an application uses, and those of the facts that leave
 abbrev pub used_labels : Rule → Choice → AllTaken → List ℕ
 used_labels r x t = take (heads_of r) x.labels ++ (taken_labels t.first ++ taken_labels t.second)
 

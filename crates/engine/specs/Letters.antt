@@ -1,6 +1,6 @@
 -- What the inner functions of fitting and of the search answer: letters are bound to words one fact after the other.
 -- No contract of a public function cites this.
-use Rattle.std.specs.Prelude.{◌≡◌, ℕ, Bool, true, false, cond, List, [], ◌∷◌, length, ℤ, pos, Some, None, Option, ◌==◌, nat_lt, slice_index_or, slice_set, unwrap_or, option_and_then}
+use Rattle.std.specs.Prelude.{ℕ, cond, List, [], ◌∷◌, length, ℤ, pos, Some, None, Option, ◌==◌, nat_lt, slice_index_or, slice_set, unwrap_or, option_and_then}
 use Rattle.facts.specs.declared.fact_types.Fact.{Fact}
 use Rattle.rules.specs.declared.rule_types.Argument.{Argument}
 use Rattle.rules.specs.declared.rule_types.Argument.TheVariants.{Letter, Constant, Any}
@@ -40,11 +40,6 @@ bind_words l (a ∷ rest) (w ∷ ws) = option_and_then (λ m. bind_words m rest 
 -- a head at a fact
 abbrev pub bind_fact : Letters → Pattern → Fact → Option Letters
 bind_fact l p f = cond (p.kind == f.kind) (bind_words l p.args f.words) None
-
--- whether it fits, and if it does how the letters are bound then
-abbrev pub IsBound : Option Letters → Letters → Bool → Type 0
-IsBound None new answer = answer ≡ false
-IsBound (Some l) new answer = (answer ≡ true) × (new ≡ l)
 
 -- a word of a fact taken, or 0 where there is none
 abbrev pub word_at : List ℤ → ℕ → ℤ

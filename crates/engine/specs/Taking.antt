@@ -1,6 +1,8 @@
 -- What the inner functions of an application answer: what the all heads take, and what the body gives for it.
 -- No contract of a public function cites this.
-use Rattle.std.specs.Prelude.{◌≡◌, ℕ, zero, suc, ◌+◌, ◌-◌, ◌≤◌, Bool, true, false, cond, not, ◌&&◌, List, [], ◌∷◌, map, take, length, Some, None, Option, is_some, nat_lt, slice_index_or, slice_set, filter}
+use Rattle.std.specs.Prelude.{◌≡◌, ℕ, zero, suc, ◌+◌, ◌-◌, Bool, true, false, cond, not, ◌&&◌, List, [], ◌∷◌, map, take, length, Some, None, Option, is_some, nat_lt, slice_index_or, slice_set, filter}
+use Rattle.lists.specs.declared.fixed_list_type.FixedList.{FixedList}
+use Rattle.lists.specs.Held.{held}
 use Rattle.facts.specs.System.{System}
 use Rattle.facts.specs.declared.fact_types.Fact.{Fact}
 use Rattle.rules.specs.declared.rule_types.GiveAll.{GiveAll}
@@ -8,7 +10,6 @@ use Rattle.rules.specs.Rules.{AllHead, Rule, all}
 use Rattle.stores.specs.Store.{Pair, fact, labels, facts, read, without}
 use Rattle.stores.specs.Lists.{has}
 use Rattle.engine.specs.declared.body_type.Body.{Body}
-use Rattle.engine.specs.declared.taking.Taken.{Taken}
 use Rattle.machine.specs.Fitting.{Setting, fits_all_head, given}
 use Rattle.machine.specs.Machine.{taken_by}
 use Rattle.engine.specs.Searching.{pairs_at}
@@ -31,16 +32,21 @@ takes_label s σ alls i ls ps n = not (has n ls) && elim (read n ps) [ None ↦ 
 abbrev pub all_taken : System → Setting → Rule → List ℕ → List Pair → List (List Pair)
 all_taken s σ r ls ps = taken_by s σ r.alls (without ls ps)
 
+-- the labels that an all head took
+abbrev pub Taken : Type 0
+Taken = FixedList ℕ 1024
+
+abbrev pub taken_labels : Taken → List ℕ
+taken_labels t = held t
+
 -- an all head took these pairs
 pub record Took (ps : List Pair) (t : Taken) : Type 0 where
-  pub held : take t.count t.labels ≡ labels ps
+  pub held : taken_labels t ≡ labels ps
   pub count : t.count ≡ length ps
-  pub bound : t.count ≤ 1024
 
 -- the labels that it took are held
-pub record Held (ps : List Pair) (t : Taken) : Type 0 where
-  pub bound : t.count ≤ 1024
-  pub each : all (λ n. is_some (read n ps)) (take t.count t.labels) ≡ true
+abbrev pub Held : List Pair → Taken → Type 0
+Held ps t = all (λ n. is_some (read n ps)) (taken_labels t) ≡ true
 
 -- how many of the facts that the all head at an index took leave, if it took so many
 abbrev pub gone_at : List AllHead → ℕ → ℕ → ℕ
@@ -54,7 +60,7 @@ gone_number r m n = length r.drops + gone_at r.alls 0 m + gone_at r.alls 1 n
 
 -- the labels that the all head of a number from 1 took
 abbrev pub labels_over : ℕ → Taken → Taken → List ℕ
-labels_over o first second = slice_index_or (take first.count first.labels ∷ (take second.count second.labels ∷ [])) (o - 1) []
+labels_over o first second = slice_index_or (taken_labels first ∷ (taken_labels second ∷ [])) (o - 1) []
 
 -- what a `giveall` gives for the facts under the labels that its all head took
 abbrev pub given_over : System → Setting → List Pair → Taken → Taken → GiveAll → List (Option Fact)
@@ -68,10 +74,10 @@ abbrev pub with_all_given : Body → List Fact → Body
 with_all_given b [] = b
 with_all_given b (f ∷ fs) = with_all_given (with_given b f) fs
 
--- whether every term has a value, and the body then
-abbrev pub Gives : Option (List Fact) → Body → Body → Bool → Type 0
-Gives None old new answer = answer ≡ false
-Gives (Some fs) old new answer = (answer ≡ true) × (new ≡ with_all_given old fs)
+-- none where a term has no value, or else the body then
+abbrev pub Gives : Option (List Fact) → Body → Body → Option (Unit {0}) → Type 0
+Gives None old new answer = answer ≡ None
+Gives (Some fs) old new answer = (answer ≡ Some tt) × (new ≡ with_all_given old fs)
 
 -- a body counts these facts, and has the first 512 of them
 pub record HasFacts (fs : List Fact) (b : Body) : Type 0 where
@@ -79,7 +85,7 @@ pub record HasFacts (fs : List Fact) (b : Body) : Type 0 where
   pub facts : take b.count b.facts ≡ take 512 fs
   pub wide : length b.facts ≡ 512
 
--- whether every term has a value, and the body of an application then
-abbrev pub IsBody : Option (List Fact) → Body → Bool → Type 0
-IsBody None b answer = answer ≡ false
-IsBody (Some fs) b answer = (answer ≡ true) × HasFacts fs b
+-- none where a term has no value, or else the body of an application then
+abbrev pub IsBody : Option (List Fact) → Body → Option (Unit {0}) → Type 0
+IsBody None b answer = answer ≡ None
+IsBody (Some fs) b answer = (answer ≡ Some tt) × HasFacts fs b

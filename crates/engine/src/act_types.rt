@@ -3,7 +3,7 @@ use facts::Fact;
 use machine::{Answer, End, PostFault};
 
 /// Something that is done with a job: facts are posted, a step is taken, so many steps are allowed, or a label is read.
-#[derive(Clone, Copy)]
+#[derive(Clone, Copy, Debug, PartialEq, Eq)]
 pub enum Act<'a> {
     Post(&'a [Fact]),
     Step,
@@ -12,7 +12,7 @@ pub enum Act<'a> {
 }
 
 /// What a job replies to an act.
-#[derive(Clone, Copy)]
+#[derive(Clone, Copy, Debug, PartialEq, Eq)]
 pub enum Reply {
     /// Whether the facts were posted.
     Posted(Result<(), PostFault>),

@@ -1,6 +1,7 @@
 //! A rule is applied to a choice of facts.
 ghost use Rattle.std.specs.Prelude.{◌≡◌, ◌+◌, ◌-◌, ◌^◌, ◌≤◌, ◌<◌, ◌++◌, true, cond, if◌then◌else◌, length, take, min, Some, None};
-ghost use Rattle.rules.specs.Rules.{all, rule_seen, Within};
+ghost use Rattle.lists.specs.Held.{held};
+ghost use Rattle.rules.specs.Rules.{all, rule_seen};
 ghost use Rattle.rules.specs.Closed.{heads_of};
 ghost use Rattle.rules.specs.Sets.{closed_rules};
 ghost use Rattle.stores.specs.Piles.{with_pairs};
@@ -11,14 +12,14 @@ ghost use Rattle.engine.specs.Applying.{gone_by, gone_labels, rule_at, place_at,
 ghost use Rattle.engine.specs.Bringing.{has_kind};
 ghost use Rattle.engine.specs.Goals.{top_of, below};
 ghost use Rattle.engine.specs.Jobs.{state_of, frame_of, IsOutcome};
-ghost use Rattle.engine.specs.Room.{short_of_room};
+ghost use Rattle.engine.specs.Room.{room, short_of_room};
 ghost use Rattle.engine.specs.Searching.{IsFound};
 
 use crate::body::body_of;
 use crate::bringing::bring_in;
 use crate::job_type::Job;
 use crate::removing::{remove_all, write_labels};
-use crate::room::{Used, short_of_room};
+use crate::room::{Used, room_in_job};
 use crate::search::{Choice, is_among};
 use crate::stack::{GOALS, Stack};
 use crate::taking::{AllTaken, Taken, gone_count, take_all};
@@ -36,45 +37,33 @@ struct Weighed {
 
 // The labels of the facts of the single heads, and then those of what the all heads took, begin the list.
 fn list_labels(list: &mut [u32], rule: &RuleRecord, choice: &Choice, taken: &AllTaken)
-    requires within { Within rule.now }
-    requires first { taken.now.first.count ≤ 1024 }
-    requires second { taken.now.second.count ≤ 1024 }
-    requires room { rule.now.single_count + (taken.now.first.count + taken.now.second.count) ≤ length list.old }
-    ensures { list.new ≡ listed (take rule.now.single_count choice.now.labels ++ (take taken.now.first.count taken.now.first.labels ++ take taken.now.second.count taken.now.second.labels)) list.old }
+    requires room { rule.now.singles.count + (taken.now.first.count + taken.now.second.count) ≤ length list.old }
+    ensures { list.new ≡ listed (take rule.now.singles.count choice.now.labels ++ (held taken.now.first ++ held taken.now.second)) list.old }
 {
-    let singles = rule.single_count;
+    let singles = rule.singles.count;
     let first = taken.first.count;
     write_labels(list, 0, &choice.labels[0..singles]);
-    write_labels(list, singles, &taken.first.labels[0..first]);
-    write_labels(
-        list,
-        singles + first,
-        &taken.second.labels[0..taken.second.count],
-    );
+    write_labels(list, singles, taken.first.as_slice());
+    write_labels(list, singles + first, taken.second.as_slice());
 }
 
 // Of the facts that the all head at an index took, those leave the store that a `dropall` head took.
 fn remove_taken<S: Store>(store: &mut S, rule: &RuleRecord, index: usize, taken: &Taken)
-    requires within { Within rule.now }
-    requires bound { taken.now.count ≤ 1024 }
-    ensures { S.meaning store.new ≡ with_pairs (S.meaning store.old) (without (gone_by (rule_seen rule.now).alls index (take taken.now.count taken.now.labels)) (S.meaning store.old).pairs) }
+    ensures { S.meaning store.new ≡ with_pairs (S.meaning store.old) (without (gone_by (rule_seen rule.now).alls index (held taken.now)) (S.meaning store.old).pairs) }
 {
-    if index >= rule.all_count {
+    if index >= rule.alls.count {
         return;
     }
-    if rule.alls[index].drops {
-        remove_all(store, &taken.labels[0..taken.count]);
+    if rule.alls.items[index].drops {
+        remove_all(store, taken.as_slice());
     }
 }
 
 // The facts of the `drop` heads, and those that the `dropall` heads took, leave the store.
 fn remove_gone<S: Store>(store: &mut S, rule: &RuleRecord, choice: &Choice, taken: &AllTaken)
-    requires within { Within rule.now }
-    requires first { taken.now.first.count ≤ 1024 }
-    requires second { taken.now.second.count ≤ 1024 }
-    ensures { S.meaning store.new ≡ with_pairs (S.meaning store.old) (without (gone_labels (rule_seen rule.now) (take rule.now.single_count choice.now.labels) (take taken.now.first.count taken.now.first.labels) (take taken.now.second.count taken.now.second.labels)) (S.meaning store.old).pairs) }
+    ensures { S.meaning store.new ≡ with_pairs (S.meaning store.old) (without (gone_labels (rule_seen rule.now) (take rule.now.singles.count choice.now.labels) (held taken.now.first) (held taken.now.second)) (S.meaning store.old).pairs) }
 {
-    remove_all(store, &choice.labels[rule.keep_count..rule.single_count]);
+    remove_all(store, &choice.labels[rule.keep_count..rule.singles.count]);
     remove_taken(store, rule, 0, &taken.first);
     remove_taken(store, rule, 1, &taken.second);
 }
@@ -89,12 +78,13 @@ fn leave_top(goals: &mut Stack, goes: bool)
 }
 
 impl<W: Words + Drop, S: Store + Drop> Job<W, S> {
-    // What there is too little of to bring in the body, if anything, where so many facts have left, and the top goal if it goes.
-    fn short_of_body(&self, removed: usize, goes: bool) -> Option<Shortage>
+    // Whether there is room to bring in the body where so many facts have left, and the top goal if it goes, or what there is too
+    // little of.
+    fn room_for_body(&self, removed: usize, goes: bool) -> Result<(), Shortage>
         requires removed { removed ≤ length (S.meaning self.now.store).pairs }
         requires goal { 1 ≤ length self.now.goals }
         requires few { self.now.scratch.body.count < 2 ^ 32 }
-        ensures { result ≡ short_of_room (length self.now.goals - (if goes then 1 else 0)) self.now.scratch.body.count (S.meaning self.now.store).capacity (length (S.meaning self.now.store).pairs - removed) self.now.next (length (seen (closed_rules self.now.set) (take (min self.now.scratch.body.count 512) self.now.scratch.body.facts))) }
+        ensures { result ≡ room (short_of_room (length self.now.goals - (if goes then 1 else 0)) self.now.scratch.body.count (S.meaning self.now.store).capacity (length (S.meaning self.now.store).pairs - removed) self.now.next (length (seen (closed_rules self.now.set) (take (min self.now.scratch.body.count 512) self.now.scratch.body.facts)))) }
     {
         let used = self.used();
         let left = Used {
@@ -106,7 +96,7 @@ impl<W: Words + Drop, S: Store + Drop> Job<W, S> {
         let count = self.scratch.body.count;
         let kept = count.min(GOALS);
         let watched = self.watched_count(&self.scratch.body.facts[0..kept]);
-        short_of_room(&left, count, watched)
+        room_in_job(&left, count, watched)
     }
 
     // What an application comes to, or why it is refused.
@@ -131,22 +121,19 @@ impl<W: Words + Drop, S: Store + Drop> Job<W, S> {
         };
         take_all::<W, S>(&self.store, rule, choice, &mut self.scratch.taken);
         let taken = &self.scratch.taken;
-        if !body_of::<W, S>(&self.store, rule, choice, taken, &mut self.scratch.body) {
+        let Some(()) = body_of::<W, S>(&self.store, rule, choice, taken, &mut self.scratch.body)
+        else {
             return Err(StepFault::Body);
-        }
-        let removed = gone_count(rule, &taken.first, &taken.second);
-        let goes = is_among(active, &choice.labels[rule.keep_count..rule.single_count]);
-        match self.short_of_body(removed, goes) {
-            Some(short) => Err(StepFault::from(short)),
-            None => Ok(Weighed { removed, goes }),
-        }
+        };
+        let removed = gone_count(rule, taken);
+        let goes = is_among(active, &choice.labels[rule.keep_count..rule.singles.count]);
+        self.room_for_body(removed, goes)?;
+        Ok(Weighed { removed, goes })
     }
 
     // The application is done.
     fn carry_out(&mut self, place: HeadPlace, choice: &Choice, goes: bool, list: &mut [u32])
         requires rule { place.rule < length (closed_rules self.old.set) }
-        requires first { self.old.scratch.taken.first.count ≤ 1024 }
-        requires second { self.old.scratch.taken.second.count ≤ 1024 }
         requires wide { heads_of (rule_at (closed_rules self.old.set) place) + (self.old.scratch.taken.first.count + self.old.scratch.taken.second.count) ≤ length list.old }
         requires added { self.old.scratch.body.count ≡ length (facts_in self.old.scratch.body) }
         requires kinds { all has_kind (facts_in self.old.scratch.body) ≡ true }

@@ -1,6 +1,6 @@
 //! The body of a rule: the facts that it gives for what its all heads took.
 ghost use Rattle.std.specs.Prelude.{◌≡◌, ◌+◌, ◌*◌, ◌≤◌, ◌<◌, [], map, flat_map, length, take, true, is_some, slice_index_or};
-ghost use Rattle.rules.specs.Rules.{all, rule_seen, Within};
+ghost use Rattle.rules.specs.Rules.{all, rule_seen};
 ghost use Rattle.stores.specs.Store.{facts, read};
 ghost use Rattle.machine.specs.Fitting.{given, all_values, body};
 ghost use Rattle.engine.specs.Letters.{setting_in};
@@ -11,7 +11,7 @@ use crate::body_type::Body;
 use crate::letters::Letters;
 use crate::search::Choice;
 use crate::stack::GOALS;
-use crate::taking::{AllTaken, Taken};
+use crate::taking::AllTaken;
 use crate::templates::fill;
 use facts::{Fact, Words};
 use rules::{GiveAll, RuleRecord, Template};
@@ -27,17 +27,14 @@ fn add(body: &mut Body, fact: Fact)
     body.count += 1;
 }
 
-fn give_each<W: Words>(letters: &Letters, templates: &[Template], body: &mut Body) -> bool
+fn give_each<W: Words>(letters: &Letters, templates: &[Template], body: &mut Body) -> Option<()>
     requires { body.old.count + length templates.now ≤ 4000 }
     ensures { Gives (all_values (map (given W.system (setting_in letters.now) []) templates.now)) body.old body.new result }
 {
     for template in templates {
-        match fill::<W>(letters, &[], template) {
-            Some(fact) => add(body, fact),
-            None => return false,
-        }
+        add(body, fill::<W>(letters, &[], template)?);
     }
-    true
+    Some(())
 }
 
 fn give_over<W: Words, S: Store>(
@@ -46,33 +43,26 @@ fn give_over<W: Words, S: Store>(
     template: &Template,
     labels: &[u32],
     body: &mut Body,
-) -> bool
+) -> Option<()>
     requires few { body.old.count + length labels.now ≤ 4000 }
     requires held { all (λ n. is_some (read n (S.meaning store.now).pairs)) labels.now ≡ true }
     ensures { Gives (all_values (map (λ f. given W.system (setting_in letters.now) f.words template.now) (facts (pairs_at (S.meaning store.now).pairs labels.now)))) body.old body.new result }
 {
     for label in labels {
-        let Some(taken) = store.read(*label) else {
-            return false;
-        };
-        match fill::<W>(letters, &taken.words, template) {
-            Some(fact) => add(body, fact),
-            None => return false,
-        }
+        let taken = store.read(*label)?;
+        add(body, fill::<W>(letters, &taken.words, template)?);
     }
-    true
+    Some(())
 }
 
 /// The labels that the all head with a number from 1 took.
-fn labels_over<'a>(over: u8, first: &'a Taken, second: &'a Taken) -> &'a [u32]
-    requires first { first.now.count ≤ 1024 }
-    requires second { second.now.count ≤ 1024 }
-    ensures { result.now ≡ labels_over over first.now second.now }
+fn labels_over<'a>(over: u8, taken: &'a AllTaken) -> &'a [u32]
+    ensures { result.now ≡ labels_over over taken.now.first taken.now.second }
 {
     if over <= 1 {
-        &first.labels[0..first.count]
+        taken.first.as_slice()
     } else if over == 2 {
-        &second.labels[0..second.count]
+        taken.second.as_slice()
     } else {
         &[]
     }
@@ -82,49 +72,36 @@ fn give_all<W: Words, S: Store>(
     store: &S,
     letters: &Letters,
     givealls: &[GiveAll],
-    first: &Taken,
-    second: &Taken,
+    taken: &AllTaken,
     body: &mut Body,
-) -> bool
+) -> Option<()>
     requires few { body.old.count + 1024 * length givealls.now ≤ 4000 }
-    requires first { Held (S.meaning store.now).pairs first.now }
-    requires second { Held (S.meaning store.now).pairs second.now }
-    ensures { Gives (all_values (flat_map (given_over W.system (setting_in letters.now) (S.meaning store.now).pairs first.now second.now) givealls.now)) body.old body.new result }
+    requires first { Held (S.meaning store.now).pairs taken.now.first }
+    requires second { Held (S.meaning store.now).pairs taken.now.second }
+    ensures { Gives (all_values (flat_map (given_over W.system (setting_in letters.now) (S.meaning store.now).pairs taken.now.first taken.now.second) givealls.now)) body.old body.new result }
 {
     for giveall in givealls {
-        let labels = labels_over(giveall.over, first, second);
-        if !give_over::<W, S>(store, letters, &giveall.each, labels, body) {
-            return false;
-        }
+        let labels = labels_over(giveall.over, taken);
+        give_over::<W, S>(store, letters, &giveall.each, labels, body)?;
     }
-    true
+    Some(())
 }
 
-/// Whether every term has a value; then the body is made of the facts that a rule gives for what its all heads took: first all of
-/// `give`, then those of each `giveall` by rising label.
+/// The body is made of the facts that a rule gives for what its all heads took: first all of `give`, then those of each `giveall` by
+/// rising label. None where a term has no value.
 pub(crate) fn body_of<W: Words, S: Store>(
     store: &S,
     rule: &RuleRecord,
     choice: &Choice,
     taken: &AllTaken,
     made: &mut Body,
-) -> bool
-    requires within { Within rule.now }
-    requires first { Took (slice_index_or (all_taken W.system (setting_in choice.now.letters) (rule_seen rule.now) (take rule.now.single_count choice.now.labels) (S.meaning store.now).pairs) 0 []) taken.now.first }
-    requires second { Took (slice_index_or (all_taken W.system (setting_in choice.now.letters) (rule_seen rule.now) (take rule.now.single_count choice.now.labels) (S.meaning store.now).pairs) 1 []) taken.now.second }
-    ensures { IsBody (body W.system (setting_in choice.now.letters) (rule_seen rule.now) (map facts (all_taken W.system (setting_in choice.now.letters) (rule_seen rule.now) (take rule.now.single_count choice.now.labels) (S.meaning store.now).pairs))) made.new result }
+) -> Option<()>
+    requires first { Took (slice_index_or (all_taken W.system (setting_in choice.now.letters) (rule_seen rule.now) (take rule.now.singles.count choice.now.labels) (S.meaning store.now).pairs) 0 []) taken.now.first }
+    requires second { Took (slice_index_or (all_taken W.system (setting_in choice.now.letters) (rule_seen rule.now) (take rule.now.singles.count choice.now.labels) (S.meaning store.now).pairs) 1 []) taken.now.second }
+    ensures { IsBody (body W.system (setting_in choice.now.letters) (rule_seen rule.now) (map facts (all_taken W.system (setting_in choice.now.letters) (rule_seen rule.now) (take rule.now.singles.count choice.now.labels) (S.meaning store.now).pairs))) made.new result }
 {
     made.count = 0;
-    if !give_each::<W>(&choice.letters, &rule.gives[0..rule.give_count], made) {
-        return false;
-    }
-    let givealls = &rule.givealls[0..rule.giveall_count];
-    give_all::<W, S>(
-        store,
-        &choice.letters,
-        givealls,
-        &taken.first,
-        &taken.second,
-        made,
-    )
+    give_each::<W>(&choice.letters, rule.gives.as_slice(), made)?;
+    let givealls = rule.givealls.as_slice();
+    give_all::<W, S>(store, &choice.letters, givealls, taken, made)
 }

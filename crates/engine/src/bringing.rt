@@ -24,6 +24,7 @@ fn put_next<S: Store>(store: &mut S, label: u32, fact: Fact)
     requires high { label ≤ last_label }
     ensures { S.meaning store.new ≡ with_pairs (S.meaning store.old) (placed label fact (S.meaning store.old).pairs) }
 {
+    // Never refused, by what is required.
     let _stored = store.put(label, fact);
 }
 
@@ -41,6 +42,7 @@ fn store_watched<W: Words, S: Store>(
     ensures next { result ≡ first + length (seen (closed_rules set.now) facts.now) }
     ensures store { S.meaning store.new ≡ with_pairs (S.meaning store.old) (placed_all (numbered first (seen (closed_rules set.now) facts.now)) (S.meaning store.old).pairs) }
 {
+    // Counts what is stored, and not the facts that are gone over.
     let mut next = first;
     for fact in facts {
         if set.watches(fact) {
@@ -68,10 +70,9 @@ fn push_waits<W: Words>(set: &ClosedSet<W>, goals: &mut Stack, facts: &[Fact])
     requires room { length goals.old + length (unseen (closed_rules set.now) facts.now) ≤ 512 }
     ensures { goals.new ≡ map Wait (unseen (closed_rules set.now) facts.now) ++ goals.old }
 {
-    for i in (0..facts.len()).rev() {
-        let fact = facts[i];
-        if !set.watches(&fact) {
-            goals.push(Goal::Wait(fact));
+    for fact in facts.iter().rev() {
+        if !set.watches(fact) {
+            goals.push(Goal::Wait(*fact));
         }
     }
 }
@@ -104,13 +105,7 @@ impl<W: Words + Drop, S: Store + Drop> Job<W, S> {
     pub(crate) fn watched_count(&self, facts: &[Fact]) -> usize
         ensures { result ≡ length (seen (closed_rules self.now.set) facts.now) }
     {
-        let mut count = 0;
-        for fact in facts {
-            if self.set.watches(fact) {
-                count += 1;
-            }
-        }
-        count
+        facts.iter().filter(|fact| self.set.watches(fact)).count()
     }
 
     /// The fact is stored under the next label. There is room for it.

@@ -9,8 +9,6 @@ impl CreateFault {
     pub fn number(self) -> u8
         ensures { result ≡ create_fault_number self }
     {
-        match self {
-            CreateFault::Facts => 16,
-        }
+        self as u8
     }
 }

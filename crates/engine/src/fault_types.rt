@@ -1,8 +1,8 @@
 //! Why no job is created. The case has a number (docs/REFUSALS.md).
 
 /// Why no job is created.
-#[derive(Clone, Copy)]
+#[derive(Clone, Copy, Debug, PartialEq, Eq)]
 pub enum CreateFault {
     /// The store has facts.
-    Facts,
+    Facts = 16,
 }

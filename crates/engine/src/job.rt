@@ -5,12 +5,13 @@ ghost use Rattle.stores.specs.Store.{read};
 ghost use Rattle.machine.specs.Machine.{empty_state, shortage, post_answer, after_post};
 ghost use Rattle.machine.specs.Ledger.{History, posting, reading, to_post, to_read};
 ghost use Rattle.engine.specs.Calls.{Upholds};
+ghost use Rattle.engine.specs.Room.{room};
 ghost use Rattle.engine.specs.Jobs.{state_of, frame_of, create_answer};
 
 use crate::fault_types::CreateFault;
 use crate::job_type::Job;
 use crate::judging::judge_facts;
-use crate::room::{Used, short_of_room};
+use crate::room::{Used, room_in_job};
 use crate::scratch_type::Scratch;
 use crate::stack::{GOALS, Stack};
 use facts::{Fact, Words};
@@ -64,27 +65,25 @@ impl<W: Words + Drop, S: Store + Drop> Job<W, S> {
         }
     }
 
-    // What there is too little of to bring the facts in, if anything.
-    fn short_of(&self, facts: &[Fact]) -> Option<Shortage>
-        ensures { result ≡ shortage (frame_of W.system S.meaning self.now) facts.now (state_of S.meaning self.now) }
+    // Whether there is room to bring the facts in, or what there is too little of.
+    fn room_for(&self, facts: &[Fact]) -> Result<(), Shortage>
+        ensures { result ≡ room (shortage (frame_of W.system S.meaning self.now) facts.now (state_of S.meaning self.now)) }
     {
         let used = self.used();
         if facts.len() > GOALS {
-            return Some(Shortage::Goals);
+            return Err(Shortage::Goals);
         }
-        short_of_room(&used, facts.len(), self.watched_count(facts))
+        room_in_job(&used, facts.len(), self.watched_count(facts))
     }
 
-    // A post.
+    // A post. It returns at several places, and `post` at one, so that what a post upholds is proved once.
     fn do_post(&mut self, facts: &[Fact]) -> Result<(), PostFault>
         ensures answer { result ≡ post_answer (frame_of W.system S.meaning self.old) facts.now (state_of S.meaning self.old) }
         ensures state { state_of S.meaning self.new ≡ after_post (frame_of W.system S.meaning self.old) facts.now (state_of S.meaning self.old) result }
         ensures frame { frame_of W.system S.meaning self.new ≡ frame_of W.system S.meaning self.old }
     {
         judge_facts::<W>(facts)?;
-        if let Some(short) = self.short_of(facts) {
-            return Err(PostFault::from(short));
-        }
+        self.room_for(facts)?;
         self.bring(facts);
         Ok(())
     }

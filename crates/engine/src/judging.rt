@@ -9,12 +9,7 @@ use machine::PostFault;
 fn words_are_valid<W: Words>(words: &[i64]) -> bool
     ensures { result ≡ all W.system.valid words.now }
 {
-    for word in words {
-        if !W::valid(*word) {
-            return false;
-        }
-    }
-    true
+    words.iter().all(|word| W::valid(*word))
 }
 
 fn judge_fact<W: Words>(number: usize, fact: &Fact) -> Result<(), PostFault>
@@ -34,10 +29,8 @@ fn judge_fact<W: Words>(number: usize, fact: &Fact) -> Result<(), PostFault>
 pub(crate) fn judge_facts<W: Words>(facts: &[Fact]) -> Result<(), PostFault>
     ensures { result ≡ facts_verdict W.system 1 facts.now }
 {
-    let mut number = 0;
-    for fact in facts {
-        number += 1;
-        judge_fact::<W>(number, fact)?;
+    for (place, fact) in facts.iter().enumerate() {
+        judge_fact::<W>(place + 1, fact)?;
     }
     Ok(())
 }

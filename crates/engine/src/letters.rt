@@ -1,7 +1,7 @@
 //! How a fact is fitted to a head: letters are bound to its words.
-ghost use Rattle.std.specs.Prelude.{◌≡◌};
+ghost use Rattle.std.specs.Prelude.{◌≡◌, None, slice_index_or};
 ghost use Rattle.machine.specs.Fitting.{fits, fits_word, fits_words};
-ghost use Rattle.engine.specs.Letters.{bind_word, bind_words, bind_fact, IsBound, setting_in};
+ghost use Rattle.engine.specs.Letters.{bind_letter, bind_word, bind_words, bind_fact, setting_in};
 
 use facts::{Fact, WORDS};
 use rules::{Argument, LETTERS, Pattern};
@@ -12,44 +12,52 @@ pub(crate) const LETTER_COUNT: usize = LETTERS as usize;
 /// The word of each letter that is bound.
 pub(crate) type Letters = [Option<i64>; LETTER_COUNT];
 
-fn bind_word(letters: &mut Letters, argument: Argument, word: i64) -> bool
-    ensures { IsBound (bind_word letters.old argument word) letters.new result }
+fn bind_letter(mut letters: Letters, letter: u8, word: i64) -> Option<Letters>
+    ensures { result ≡ bind_letter (slice_index_or letters letter None) letters letter word }
+{
+    let at = usize::from(letter);
+    match *letters.get(at)? {
+        Some(bound) => (bound == word).then_some(letters),
+        None => {
+            letters[at] = Some(word);
+            Some(letters)
+        }
+    }
+}
+
+fn bind_word(letters: Letters, argument: Argument, word: i64) -> Option<Letters>
+    ensures { result ≡ bind_word letters argument word }
 {
     match argument {
-        Argument::Letter(letter) => {
-            let at = usize::from(letter);
-            if at >= LETTER_COUNT {
-                return false;
-            }
-            match letters[at] {
-                Some(bound) => bound == word,
-                None => {
-                    letters[at] = Some(word);
-                    true
-                }
-            }
-        }
-        Argument::Constant(constant) => constant == word,
-        Argument::Any => true,
+        Argument::Letter(letter) => bind_letter(letters, letter, word),
+        Argument::Constant(constant) => (constant == word).then_some(letters),
+        Argument::Any => Some(letters),
     }
 }
 
-fn bind_words(letters: &mut Letters, args: &[Argument; WORDS], words: &[i64; WORDS]) -> bool
-    ensures { IsBound (bind_words letters.old args.now words.now) letters.new result }
+fn bind_words(
+    mut letters: Letters,
+    args: &[Argument; WORDS],
+    words: &[i64; WORDS],
+) -> Option<Letters>
+    ensures { result ≡ bind_words letters args.now words.now }
 {
-    for i in 0..WORDS {
-        if !bind_word(letters, args[i], words[i]) {
-            return false;
-        }
+    for (argument, word) in args.iter().zip(words) {
+        letters = bind_word(letters, *argument, *word)?;
     }
-    true
+    Some(letters)
 }
 
-/// Fits a fact to a head and binds the letters that stand in it. Where the fact does not fit, the letters mean nothing any more.
-pub(crate) fn bind_fact(letters: &mut Letters, pattern: &Pattern, fact: &Fact) -> bool
-    ensures { IsBound (bind_fact letters.old pattern.now fact.now) letters.new result }
+/// Fits a fact to a head and binds the letters that stand in it. None where the fact does not fit.
+// Always inlined: as a call, with the letters by value, it costs a job up to 5 per cent more instructions.
+#[inline(always)]
+pub(crate) fn bind_fact(letters: Letters, pattern: &Pattern, fact: &Fact) -> Option<Letters>
+    ensures { result ≡ bind_fact letters pattern.now fact.now }
 {
-    pattern.kind == fact.kind && bind_words(letters, &pattern.args, &fact.words)
+    if pattern.kind != fact.kind {
+        return None;
+    }
+    bind_words(letters, &pattern.args, &fact.words)
 }
 
 /// The word of a letter, or 0 where it is not bound.
@@ -60,10 +68,7 @@ pub(crate) fn word_of(letters: &Letters, letter: u8) -> i64
     if at >= LETTER_COUNT {
         return 0;
     }
-    match letters[at] {
-        Some(word) => word,
-        None => 0,
-    }
+    letters[at].unwrap_or(0)
 }
 
 fn fits_word(letters: &Letters, argument: Argument, word: i64) -> bool
@@ -79,8 +84,8 @@ fn fits_word(letters: &Letters, argument: Argument, word: i64) -> bool
 fn fits_words(letters: &Letters, args: &[Argument; WORDS], words: &[i64; WORDS]) -> bool
     ensures { result ≡ fits_words (setting_in letters.now) args.now words.now }
 {
-    for i in 0..WORDS {
-        if !fits_word(letters, args[i], words[i]) {
+    for (argument, word) in args.iter().zip(words) {
+        if !fits_word(letters, *argument, *word) {
             return false;
         }
     }

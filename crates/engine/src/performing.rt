@@ -57,10 +57,9 @@ pub fn perform<W: Words + Drop, S: Store + Drop>(
 {
     Job::<W, S>::may_create(&store)?;
     let mut job = Job::<W, S>::create(set, store);
-    let mut done = 0;
-    while done < acts.len() && done < replies.len() {
-        replies[done] = do_act(&mut job, &acts[done], list);
-        done += 1;
+    let count = acts.len().min(replies.len());
+    for (done, act) in acts[..count].iter().enumerate() {
+        replies[done] = do_act(&mut job, act, list);
     }
-    Ok(done)
+    Ok(count)
 }

@@ -1,6 +1,6 @@
 //! Whether there is room for facts.
 ghost use Rattle.std.specs.Prelude.{◌≡◌, ◌<◌, ◌≤◌, ◌^◌};
-ghost use Rattle.engine.specs.Room.{short_of_store, short_of_room};
+ghost use Rattle.engine.specs.Room.{room, short_of_store, short_of_room};
 
 use crate::stack::GOALS;
 use machine::Shortage;
@@ -15,31 +15,31 @@ pub(crate) struct Used {
     pub(crate) capacity: usize,
 }
 
-/// What there is too little of to store so many facts more, if anything.
-pub(crate) fn short_of_store(used: &Used, stored: usize) -> Option<Shortage>
+/// Whether there is room to store so many facts more, or what there is too little of.
+pub(crate) fn room_in_store(used: &Used, stored: usize) -> Result<(), Shortage>
     requires facts { used.now.facts ≤ 1024 }
     requires stored { stored ≤ 1024 }
-    ensures { result ≡ short_of_store used.now.capacity used.now.facts used.now.next stored }
+    ensures { result ≡ room (short_of_store used.now.capacity used.now.facts used.now.next stored) }
 {
     if used.facts + stored > used.capacity {
-        return Some(Shortage::Facts);
+        return Err(Shortage::Facts);
     }
     if used.next as usize + stored > LABELS as usize + 1 {
-        return Some(Shortage::Labels);
+        return Err(Shortage::Labels);
     }
-    None
+    Ok(())
 }
 
-/// What there is too little of to bring in so many facts, of which some are stored at once, if anything.
-pub(crate) fn short_of_room(used: &Used, brought: usize, stored: usize) -> Option<Shortage>
+/// Whether there is room to bring in so many facts, of which some are stored at once, or what there is too little of.
+pub(crate) fn room_in_job(used: &Used, brought: usize, stored: usize) -> Result<(), Shortage>
     requires goals { used.now.goals ≤ 512 }
     requires facts { used.now.facts ≤ 1024 }
     requires brought { brought < 2 ^ 32 }
     requires stored { stored ≤ 1024 }
-    ensures { result ≡ short_of_room used.now.goals brought used.now.capacity used.now.facts used.now.next stored }
+    ensures { result ≡ room (short_of_room used.now.goals brought used.now.capacity used.now.facts used.now.next stored) }
 {
     if used.goals + brought > GOALS {
-        return Some(Shortage::Goals);
+        return Err(Shortage::Goals);
     }
-    short_of_store(used, stored)
+    room_in_store(used, stored)
 }

@@ -1,8 +1,9 @@
 //! Where an application keeps what it works out.
 use crate::body_type::Body;
 use crate::stack::GOALS;
-use crate::taking::{AllTaken, NOTHING};
+use crate::taking::AllTaken;
 use facts::{Fact, WORDS};
+use lists::FixedList;
 
 /// What the all heads of a rule took, and what its body gave, the last time that a rule was weighed.
 #[derive(Drop)]
@@ -20,8 +21,8 @@ impl Scratch {
         };
         Scratch {
             taken: AllTaken {
-                first: NOTHING,
-                second: NOTHING,
+                first: FixedList::new(0),
+                second: FixedList::new(0),
             },
             body: Body {
                 facts: [fact; GOALS],

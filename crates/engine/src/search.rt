@@ -1,6 +1,7 @@
 //! The search for the lowest choice of facts that makes a rule ready, with the active fact at its place.
 ghost use Rattle.std.specs.Prelude.{◌≡◌, ◌<◌, ◌≤◌, take, true, Some};
-ghost use Rattle.rules.specs.Rules.{rule_seen, Within};
+ghost use Rattle.lists.specs.Held.{held};
+ghost use Rattle.rules.specs.Rules.{rule_seen};
 ghost use Rattle.rules.specs.Closed.{accepted, rule_verdict, every_word};
 ghost use Rattle.stores.specs.Lists.{has};
 ghost use Rattle.stores.specs.Store.{read, next_that};
@@ -23,12 +24,7 @@ pub(crate) struct Choice {
 pub(crate) fn is_among(label: u32, labels: &[u32]) -> bool
     ensures { result ≡ has label labels.now }
 {
-    for other in labels {
-        if label == *other {
-            return true;
-        }
-    }
-    false
+    labels.contains(&label)
 }
 
 /// The word that a head asks for at its first place, where that is known.
@@ -76,12 +72,10 @@ fn extended<S: Store>(
         return None;
     }
     let fact = store.read(label)?;
-    let mut longer = *choice;
-    if !bind_fact(&mut longer.letters, pattern, &fact) {
-        return None;
-    }
-    longer.labels[at] = label;
-    Some(longer)
+    let letters = bind_fact(choice.letters, pattern, &fact)?;
+    let mut labels = choice.labels;
+    labels[at] = label;
+    Some(Choice { labels, letters })
 }
 
 /// The lowest choice that begins with the labels chosen so far and makes the rule ready.
@@ -93,17 +87,12 @@ fn search_from<W: Words, S: Store>(
     choice: &Choice,
     at: usize,
 ) -> Option<Choice>
-    requires within { Within rule.now }
     requires partial { IsPartial (S.meaning store.now).pairs (rule_seen rule.now) place active (take at choice.now.labels) choice.now.letters }
-    requires at_head { at ≤ rule.now.single_count }
+    requires at_head { at ≤ rule.now.singles.count }
     ensures { IsFound (rule_seen rule.now) (found_from W.system (rule_seen rule.now) place active (S.meaning store.now).pairs (take at choice.now.labels)) result }
 {
-    if at >= rule.single_count {
-        return if conditions_hold::<W>(&choice.letters, rule) {
-            Some(*choice)
-        } else {
-            None
-        };
+    if at >= rule.singles.count {
+        return conditions_hold::<W>(&choice.letters, rule).then_some(*choice);
     }
     if at == place {
         let mut longer = *choice;
@@ -111,8 +100,8 @@ fn search_from<W: Words, S: Store>(
         return search_from::<W, S>(store, rule, place, active, &longer, at + 1);
     }
     let mut above = 0;
-    while let Some(label) = next_candidate(store, &choice.letters, &rule.singles[at], above) {
-        if let Some(longer) = extended(store, &rule.singles[at], active, choice, at, label) {
+    while let Some(label) = next_candidate(store, &choice.letters, &rule.singles.items[at], above) {
+        if let Some(longer) = extended(store, &rule.singles.items[at], active, choice, at, label) {
             if let Some(found) = search_from::<W, S>(store, rule, place, active, &longer, at + 1) {
                 return Some(found);
             }
@@ -129,11 +118,10 @@ fn all_have_candidates<S: Store>(
     place: usize,
     letters: &Letters,
 ) -> bool
-    requires { Within rule.now }
-    ensures { result ≡ candidates_stand (S.meaning store.now).pairs letters.now place 0 (take rule.now.single_count rule.now.singles) }
+    ensures { result ≡ candidates_stand (S.meaning store.now).pairs letters.now place 0 (held rule.now.singles) }
 {
-    for at in 0..rule.single_count {
-        if at != place && next_candidate(store, letters, &rule.singles[at], 0).is_none() {
+    for (at, head) in rule.singles.as_slice().iter().enumerate() {
+        if at != place && next_candidate(store, letters, head, 0).is_none() {
             return false;
         }
     }
@@ -148,16 +136,12 @@ pub(crate) fn search<W: Words, S: Store>(
     active: u32,
     fact: &Fact,
 ) -> Option<Choice>
-    requires within { Within rule.now }
     requires stands { accepted (rule_verdict every_word (rule_seen rule.now)) ≡ true }
-    requires place { place < rule.now.single_count }
+    requires place { place < rule.now.singles.count }
     requires held { read active (S.meaning store.now).pairs ≡ Some fact.now }
     ensures { IsFound (rule_seen rule.now) (chosen W.system (rule_seen rule.now) place active (S.meaning store.now).pairs) result }
 {
-    let mut letters = [None; LETTER_COUNT];
-    if !bind_fact(&mut letters, &rule.singles[place], fact) {
-        return None;
-    }
+    let letters = bind_fact([None; LETTER_COUNT], &rule.singles.items[place], fact)?;
     if !all_have_candidates(store, rule, place, &letters) {
         return None;
     }

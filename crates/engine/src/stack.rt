@@ -1,28 +1,29 @@
 //! The goals of a job: a stack of at most 512.
-ghost use Rattle.std.specs.Prelude.{◌≡◌, ◌<◌, ◌≤◌, ◌∷◌, [], List, length, take, reverse, Some, None, IfSome, true};
+ghost use Rattle.std.specs.Prelude.{◌≡◌, ◌<◌, ◌≤◌, ◌∷◌, [], List, length, reverse, Some, None, IfSome, true};
 ghost use Rattle.machine.specs.declared.goal_types.Goal.{Goal};
 ghost use Rattle.engine.specs.Goals.{top_of, below, fits_store};
 ghost use Rattle.rules.specs.Rules.{all};
+ghost use Rattle.lists.specs.Held.{held};
 
+use lists::FixedList;
 use machine::Goal;
 use std::marker::Model;
 
 /// How many goals there are at most.
 pub(crate) const GOALS: usize = 512;
 
-/// Goals, of which the top one is the last of the array's first `depth`. The kind of a fact that waits is from 0 to 63.
+/// Goals, of which the top one is the last of the list. The kind of a fact that waits is from 0 to 63.
 #[derive(Drop)]
 pub(crate) struct Stack {
-    goals: [Goal; GOALS],
-    depth: usize,
+    goals: FixedList<Goal, GOALS>,
 }
 
 impl Model for Stack {
     ghost Value = { List Goal };
 
-    ghost view = { λ s. reverse (take s.depth s.goals) };
+    ghost view = { λ s. reverse (held s.goals) };
 
-    ghost invariant = { λ s. (length s.goals ≡ 512) × (s.depth ≤ 512) × (all fits_store (take s.depth s.goals) ≡ true) };
+    ghost invariant = { λ s. all fits_store (held s.goals) ≡ true };
 }
 
 impl Stack {
@@ -31,8 +32,7 @@ impl Stack {
         ensures { result ≡ [] }
     {
         Stack {
-            goals: [Goal::Look(0); GOALS],
-            depth: 0,
+            goals: FixedList::new(Goal::Look(0)),
         }
     }
 
@@ -42,7 +42,7 @@ impl Stack {
         ensures bound { result ≤ 512 }
         ensures sound { all fits_store self.now ≡ true }
     {
-        self.depth
+        self.goals.len()
     }
 
     /// The top goal, or none.
@@ -50,10 +50,7 @@ impl Stack {
         ensures top { result ≡ top_of self.now }
         ensures sound { IfSome result (λ goal. fits_store goal ≡ true) }
     {
-        if self.depth == 0 {
-            return None;
-        }
-        Some(self.goals[self.depth - 1])
+        self.goals.as_slice().last().copied()
     }
 
     /// One goal more, on top.
@@ -62,8 +59,7 @@ impl Stack {
         requires sound { fits_store goal ≡ true }
         ensures { self.new ≡ goal ∷ self.old }
     {
-        self.goals[self.depth] = goal;
-        self.depth += 1;
+        self.goals.push(goal);
     }
 
     /// The top goal goes, where there is one.
@@ -71,8 +67,17 @@ impl Stack {
         ensures rest { self.new ≡ below self.old }
         ensures room { length self.new < 512 }
     {
-        if self.depth > 0 {
-            self.depth -= 1;
+        if self.goals.count > 0 {
+            self.goals.count -= 1;
         }
+    }
+
+    /// The top goal is replaced, or the goal is the only one where there is none.
+    pub(crate) fn replace_top(&mut self, goal: Goal)
+        requires { fits_store goal ≡ true }
+        ensures { self.new ≡ goal ∷ below self.old }
+    {
+        self.pop();
+        self.push(goal);
     }
 }

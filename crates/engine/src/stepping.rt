@@ -14,7 +14,7 @@ ghost use Rattle.engine.specs.Jobs.{state_of, frame_of, IsOutcome, IsRun};
 
 use crate::job_type::Job;
 use crate::listening::{Listener, Silent};
-use crate::room::short_of_store;
+use crate::room::room_in_store;
 use crate::search::search;
 use facts::{Fact, Words};
 use machine::{Answer, End, Goal, StepFault};
@@ -38,19 +38,6 @@ fn tell<L: Listener>(listener: &mut L, answer: &Answer) {
 }
 
 impl<W: Words + Drop, S: Store + Drop> Job<W, S> {
-    // The top goal is replaced.
-    fn replace_top(&mut self, goal: Goal)
-        requires kind { fits_store goal ≡ true }
-        requires room { 1 ≤ length self.old.goals }
-        ensures goals { self.new.goals ≡ goal ∷ below self.old.goals }
-        ensures set { self.new.set ≡ self.old.set }
-        ensures store { self.new.store ≡ self.old.store }
-        ensures next { self.new.next ≡ self.old.next }
-    {
-        self.goals.pop();
-        self.goals.push(goal);
-    }
-
     // The waiting fact on top is stored under the next label, which is tried from the first head on.
     fn store_waiting(&mut self, fact: Fact) -> Answer
         requires kind { has_kind fact ≡ true }
@@ -59,12 +46,12 @@ impl<W: Words + Drop, S: Store + Drop> Job<W, S> {
         ensures answer { result ≡ (wait_step (frame_of W.system S.meaning self.old) fact (below self.old.goals) (state_of S.meaning self.old) []).answer }
         ensures frame { frame_of W.system S.meaning self.new ≡ frame_of W.system S.meaning self.old }
     {
-        if let Some(short) = short_of_store(&self.used(), 1) {
+        if let Err(short) = room_in_store(&self.used(), 1) {
             return Answer::Refused(StepFault::from(short));
         }
         let label = self.next;
         self.store_next(fact);
-        self.replace_top(Goal::Try(label, 1));
+        self.goals.replace_top(Goal::Try(label, 1));
         Answer::Stored
     }
 
@@ -92,22 +79,10 @@ impl<W: Words + Drop, S: Store + Drop> Job<W, S> {
         match found {
             Some(choice) => self.apply(label, number, place, &choice, list),
             None => {
-                self.replace_top(Goal::Try(label, number + 1));
+                self.goals.replace_top(Goal::Try(label, number + 1));
                 Answer::Passed
             }
         }
-    }
-
-    // The top goal is dropped.
-    fn drop_top(&mut self) -> Answer
-        ensures answer { result ≡ Dropped }
-        ensures goals { self.new.goals ≡ below self.old.goals }
-        ensures set { self.new.set ≡ self.old.set }
-        ensures store { self.new.store ≡ self.old.store }
-        ensures next { self.new.next ≡ self.old.next }
-    {
-        self.goals.pop();
-        Answer::Dropped
     }
 
     // The stored fact of the label is to be tried from the first head on; the goal of one that is gone is dropped.
@@ -119,10 +94,13 @@ impl<W: Words + Drop, S: Store + Drop> Job<W, S> {
     {
         match self.store.read(label) {
             Some(_) => {
-                self.replace_top(Goal::Try(label, 1));
+                self.goals.replace_top(Goal::Try(label, 1));
                 Answer::Woken
             }
-            None => self.drop_top(),
+            None => {
+                self.goals.pop();
+                Answer::Dropped
+            }
         }
     }
 
@@ -135,10 +113,12 @@ impl<W: Words + Drop, S: Store + Drop> Job<W, S> {
         ensures frame { frame_of W.system S.meaning self.new ≡ frame_of W.system S.meaning self.old }
     {
         let Some(fact) = self.store.read(label) else {
-            return self.drop_top();
+            self.goals.pop();
+            return Answer::Dropped;
         };
         let Some(place) = self.set.head(usize::from(number)) else {
-            return self.drop_top();
+            self.goals.pop();
+            return Answer::Dropped;
         };
         self.try_at(label, number, &fact, place, list)
     }
@@ -159,7 +139,7 @@ impl<W: Words + Drop, S: Store + Drop> Job<W, S> {
         }
     }
 
-    // A step.
+    // A step. It returns at two places, and `step` at one, so that what a step upholds is proved once.
     fn do_step(&mut self, list: &mut [u32]) -> Answer
         ensures outcome { IsOutcome (step (frame_of W.system S.meaning self.old) list.old (state_of S.meaning self.old)) (state_of S.meaning self.new) result list.new }
         ensures frame { frame_of W.system S.meaning self.new ≡ frame_of W.system S.meaning self.old }
@@ -170,7 +150,7 @@ impl<W: Words + Drop, S: Store + Drop> Job<W, S> {
         self.work(list)
     }
 
-    // A run.
+    // A run. It returns at several places, and `run_with` at one, so that what a run upholds is proved once.
     fn do_run<L: Listener>(
         &mut self,
         budget: u32,
@@ -183,6 +163,7 @@ impl<W: Words + Drop, S: Store + Drop> Job<W, S> {
         if list.len() < self.store.capacity() {
             return (End::Stopped(StepFault::List), 0, 0);
         }
+        // Both counts are answered, and the run ends for one of three reasons: there is nothing to enumerate.
         let mut steps = 0;
         let mut applications = 0;
         loop {

@@ -16,8 +16,8 @@ fn fill_words<W: Words>(
     ensures { result ≡ all_values (map (term_value W.system (setting_in letters.now) taken.now) terms.now) }
 {
     let mut words = [0; WORDS];
-    for i in 0..WORDS {
-        words[i] = term_word::<W>(letters, taken, terms[i])?;
+    for (i, term) in terms.iter().enumerate() {
+        words[i] = term_word::<W>(letters, taken, *term)?;
     }
     Some(words)
 }

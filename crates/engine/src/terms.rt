@@ -1,6 +1,6 @@
 //! Terms and comparisons under the words of the letters, and of a fact that an all head takes.
 ghost use Rattle.std.specs.Prelude.{◌≡◌, ◌≤◌, []};
-ghost use Rattle.rules.specs.Rules.{rule_seen, all_seen, all, Within};
+ghost use Rattle.rules.specs.Rules.{rule_seen, all_seen, all};
 ghost use Rattle.machine.specs.Fitting.{operand_value, term_value, holds, fits_all_head};
 ghost use Rattle.engine.specs.Letters.{setting_in, word_at};
 
@@ -54,27 +54,19 @@ fn comparison_holds<W: Words>(letters: &Letters, taken: &[i64], comparison: &Com
 fn all_hold<W: Words>(letters: &Letters, taken: &[i64], comparisons: &[Comparison]) -> bool
     ensures { result ≡ all (holds W.system (setting_in letters.now) taken.now) comparisons.now }
 {
-    for comparison in comparisons {
-        if !comparison_holds::<W>(letters, taken, comparison) {
-            return false;
-        }
-    }
-    true
+    comparisons.iter().all(|comparison| comparison_holds::<W>(letters, taken, comparison))
 }
 
 /// Whether every condition of a rule holds.
 pub(crate) fn conditions_hold<W: Words>(letters: &Letters, rule: &RuleRecord) -> bool
-    requires { Within rule.now }
     ensures { result ≡ all (holds W.system (setting_in letters.now) []) (rule_seen rule.now).whens }
 {
-    all_hold::<W>(letters, &[], &rule.whens[0..rule.when_count])
+    all_hold::<W>(letters, &[], rule.whens.as_slice())
 }
 
 /// Whether a fact fits an all head and its `only` comparisons.
 pub(crate) fn fits_all_head<W: Words>(letters: &Letters, all: &AllRecord, fact: &Fact) -> bool
-    requires { all.now.only_count ≤ 2 }
     ensures { result ≡ fits_all_head W.system (setting_in letters.now) (all_seen all.now) fact.now }
 {
-    fits(letters, &all.pattern, fact)
-        && all_hold::<W>(letters, &fact.words, &all.only[0..all.only_count])
+    fits(letters, &all.pattern, fact) && all_hold::<W>(letters, &fact.words, all.only.as_slice())
 }

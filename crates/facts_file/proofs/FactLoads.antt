@@ -4,10 +4,10 @@ use Rattle.facts.specs.declared.fact_types.Fact.{Fact}
 use Rattle.std.proofs.lemmas.List.{take_more_set, drop-set-lt, drop-drop, take-append-drop, length-take-le, length-set, take_at}
 use Rattle.facts_file.proofs.Facts.{file-read, file-was}
 use Rattle.facts_file.proofs.Named.{answer-named}
-use Rattle.rows.proofs.Outcomes.{no_ok, same_ok, bind_ok}
+use Rattle.rows.proofs.Outcomes.{no_ok, same_ok, bind_ok, NoBytes, bytes-refused}
 use Rattle.rows.proofs.Rows.{rows_step, rows_end, row_shorter}
 use Rattle.rows.specs.Csv.{Part, Read, got, broken, read_row, counted, Row, fields, malformed, behind_row, rows}
-use Rattle.rows.specs.Refusals.{Outcome, refusal, refuse, ◌>>=◌, most_bytes}
+use Rattle.rows.specs.Refusals.{Outcome, refusal, refuse, ◌>>=◌, most_bytes, file_bytes}
 use Rattle.facts_file.specs.FactRefusals.{Named}
 use Rattle.std.proofs.lemmas.Bool.{le-ltb}
 use Rattle.facts_file.specs.Facts.{most_facts, fact_row, fact_rows, fact_front, kept, fact_count, facts_of, facts_file, front_of, facts_before, over, FileWritten, FactsLoaded}
@@ -180,3 +180,19 @@ short_loaded valid file bs old table r e short a t =
     let answer : r ≡ fact_count (facts_file valid file) = rw (e, under) a in
     let after : table ≡ over (facts_before valid file) old = rw (e, under) t in
     (answer, after, answer-named valid file r answer, loaded_so valid file old table r answer after)
+
+-- a file that is not there or is too long
+pub refused_loaded : (valid : ℤ → Bool) (file : Option (List ℕ)) (table : List Fact) (e : Refusal) → Err e ≡ file_bytes file → (Err e ≡ fact_count (facts_file valid file)) × (table ≡ over (facts_before valid file) table) × Named {X = ℕ} (Err e) × FactsLoaded valid file (Err e) table
+refused_loaded valid file table e h =
+    let no = bytes-refused file e h in
+    let answer : Err e ≡ fact_count (facts_file valid file) = ap (λ (x : Refusal). Err x) no.0 ∙ sym (ap fact_count (nothing file no.1)) in
+    let after : table ≡ over (facts_before valid file) table = sym (ap (λ (x : List Fact). over x table) (none file no.1)) in
+    (answer, after, answer-named valid file (Err e) answer, loaded_so valid file table table (Err e) answer after)
+  where
+    nothing : (f : Option (List ℕ)) → NoBytes f → facts_file valid f ≡ refuse 7 0 0 Reader
+    nothing None u = refl
+    nothing (Some bs) long = rw long refl
+
+    none : (f : Option (List ℕ)) → NoBytes f → facts_before valid f ≡ []
+    none None u = refl
+    none (Some bs) long = rw long refl

@@ -1,8 +1,8 @@
 -- A row of facts read field by field comes to what its fields come to.
-use Rattle.std.proofs.Common.{◌≡◌, ℕ, suc, ◌+◌, ◌-◌, ◌<◌, ◌≤◌, Bool, true, false, cond, ltb, List, [], ◌∷◌, ◌++◌, length, take, ℤ, Ok, Err, sym, refl, ap, ◌∙◌, append_assoc, append-nil, arith}
+use Rattle.std.proofs.Common.{◌≡◌, ℕ, suc, ◌+◌, ◌-◌, ◌<◌, ◌≤◌, Bool, true, false, cond, ltb, List, [], ◌∷◌, ◌++◌, length, take, ℤ, None, Ok, Err, sym, refl, ap, ◌∙◌, append_assoc, append-nil, arith}
 use Rattle.std.proofs.lemmas.Bool.{eq-eqb, ne_eqb}
 use Rattle.std.proofs.lemmas.List.{take_all}
-use Rattle.rows.specs.Csv.{Part, content, Read, got, broken, read_separated, read_row, counted, fields}
+use Rattle.rows.specs.Csv.{Part, content, Read, got, broken, read_separated, read_row, counted, of_width, fields}
 use Rattle.rows.specs.Numbers.{number}
 use Rattle.rows.specs.Fields.{Shape, place_of, placed, number_in}
 use Rattle.rows.specs.Refusals.{Outcome, refuse, ◌>>=◌}
@@ -13,7 +13,7 @@ use Rattle.rows.specs.declared.field_types.Place.{Place}
 use Rattle.rows.specs.declared.refusal_types.Refusal.{Refusal}
 use Rattle.rows.specs.declared.refusal_types.Layer.TheVariants.{Reader, Job}
 use Rattle.rows.proofs.Sorted.{placed-got, GoesOn, first_field}
-use Rattle.rows.proofs.Rows.{counted-got, counted-broken, placed-broken}
+use Rattle.rows.proofs.Rows.{counted-got, counted-broken, placed-broken, wide-none}
 
 -- the words of a row, one after the other -----------------------------------------------------------------------
 
@@ -109,7 +109,7 @@ fact_of-row valid row f fs bs end l e =
 -- a row ---------------------------------------------------------------------------------------------------------
 
 module _ (valid : ℤ → Bool) (row : ℕ) (bs : List ℕ) where
-  pub step-broken : broken ≡ counted (read_row bs) → refuse 7 row 0 Reader ≡ fact_step valid row bs
+  step-broken : broken ≡ counted (read_row bs) → refuse 7 row 0 Reader ≡ fact_step valid row bs
   unfolding fact_step
   step-broken e = sym (ap (row_then valid row) (counted-broken (read_row bs) (sym e)))
 
@@ -118,7 +118,7 @@ module _ (valid : ℤ → Bool) (row : ℕ) (bs : List ℕ) where
   at_row n rest e = let c = counted-got (read_row bs) n rest (sym e) in (c.0, c.2, c.1, ap (row_then valid row) c.1)
 
   module _ (n : ℕ) (rest : List ℕ) (h : got n rest ≡ counted (read_row bs)) where
-    pub step_uneven : (n ≡ words + 1 → ⊥) → refuse 7 row 0 Reader ≡ fact_step valid row bs
+    step_uneven : (n ≡ words + 1 → ⊥) → refuse 7 row 0 Reader ≡ fact_step valid row bs
     step_uneven other =
         let a = at_row n rest h in
         sym (a.3 ∙ rw (ne_eqb (length a.0) (words + 1) (λ e. other (sym a.1 ∙ e))) refl)
@@ -143,3 +143,10 @@ module _ (valid : ℤ → Bool) (row : ℕ) (bs : List ℕ) where
 
     pub step-made : n ≡ words + 1 → ltb most_facts row ≡ false → (f : Fact) → Ok f ≡ fact_at valid row bs → Ok (f, rest) ≡ fact_step valid row bs
     step-made all few f k = sym (judged all few ∙ rw (← k) refl)
+
+  pub step-other : None ≡ of_width (words + 1) (counted (read_row bs)) → refuse 7 row 0 Reader ≡ fact_step valid row bs
+  step-other h = go (read_row bs) refl h
+    where
+      go : (r : Read (List Part)) → read_row bs ≡ r → None ≡ of_width (words + 1) (counted r) → refuse 7 row 0 Reader ≡ fact_step valid row bs
+      go broken e k = step-broken (sym (ap counted e))
+      go (got fs rest) e k = step_uneven (length fs) rest (sym (ap counted e)) (wide-none (words + 1) (length fs) (got (length fs) rest) rest k refl)

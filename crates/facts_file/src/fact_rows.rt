@@ -12,8 +12,7 @@ ghost use Rattle.facts_file.specs.FactScan.{number_field, words_at, fact_at, fac
 use crate::fault_types::FactFault;
 use facts::{Fact, KINDS, WORDS, Words};
 use rows::{
-    Field, FieldFault, Layer, MOST_BYTES, Place, Refusal, place, read_field, read_number, read_row,
-    whole_file,
+    Field, FieldFault, Place, Refusal, file_bytes, read_field, read_number, readable, row_of_width,
 };
 
 /// How many facts a file may have.
@@ -24,8 +23,7 @@ fn number(field: Field<'_>) -> Result<i64, FieldFault>
 {
     match field {
         Field::Number(text, place) | Field::Quoted(text, place) => {
-            let number = read_number(text);
-            number.ok_or(FieldFault { place })
+            readable(read_number(text), place)
         }
         Field::Word(_, place) | Field::Letter(_, place) => Err(FieldFault { place }),
     }
@@ -34,12 +32,9 @@ fn number(field: Field<'_>) -> Result<i64, FieldFault>
 fn kind(field: Field<'_>) -> Result<u8, FactFault>
     ensures { refused_as fact_refusal result ≡ fact_kind (place_of (field_seen field.entry)).row (place_of (field_seen field.entry)).field (number_in (field_seen field.entry)) }
 {
-    let kind = number(field)?;
-    if 0 <= kind && kind < i64::from(KINDS) {
-        Ok(kind as u8)
-    } else {
-        Err(FactFault::Kind(place(field)))
-    }
+    let kind = u8::try_from(number(field)?).ok();
+    kind.filter(|kind| *kind < KINDS)
+        .ok_or(FactFault::Kind(field.place()))
 }
 
 fn word<W: Words>(field: Field<'_>) -> Result<i64, FactFault>
@@ -49,7 +44,7 @@ fn word<W: Words>(field: Field<'_>) -> Result<i64, FactFault>
     if W::valid(word) {
         Ok(word)
     } else {
-        Err(FactFault::Word(place(field)))
+        Err(FactFault::Word(field.place()))
     }
 }
 
@@ -58,12 +53,11 @@ fn read_words<W: Words>(bytes: &[u8], row: u32) -> Result<[i64; WORDS], FactFaul
 {
     let mut words = [0; WORDS];
     let mut rest = bytes;
-    for i in 0..WORDS {
+    for (i, slot) in words.iter_mut().enumerate() {
         let field = i as u32 + 2;
-        let Some((field, more)) = read_field(rest, Place { row, field }) else {
-            return Err(FactFault::Malformed(row));
-        };
-        words[i] = word::<W>(field)?;
+        let read = read_field(rest, Place { row, field });
+        let (field, more) = read.ok_or(FactFault::Malformed(row))?;
+        *slot = word::<W>(field)?;
         rest = more;
     }
     Ok(words)
@@ -72,9 +66,8 @@ fn read_words<W: Words>(bytes: &[u8], row: u32) -> Result<[i64; WORDS], FactFaul
 fn read_fact<W: Words>(bytes: &[u8], row: u32) -> Result<Fact, FactFault>
     ensures { refused_as fact_refusal result ≡ fact_at W.Words.system.valid row bytes.now }
 {
-    let Some((field, rest)) = read_field(bytes, Place { row, field: 1 }) else {
-        return Err(FactFault::Malformed(row));
-    };
+    let read = read_field(bytes, Place { row, field: 1 });
+    let (field, rest) = read.ok_or(FactFault::Malformed(row))?;
     let kind = kind(field)?;
     let words = read_words::<W>(rest, row)?;
     Ok(Fact { kind, words })
@@ -90,12 +83,7 @@ fn next_fact<'a, W: Words>(bytes: &'a [u8], row: u32) -> Result<(Fact, &'a [u8])
     ensures step { refused_as fact_refusal (step_seen result) ≡ fact_step W.Words.system.valid row bytes.now }
     ensures bound { OnOk result (row ≤ most_facts) }
 {
-    let Some((count, rest)) = read_row(bytes) else {
-        return Err(FactFault::Malformed(row));
-    };
-    if count != WORDS + 1 {
-        return Err(FactFault::Malformed(row));
-    }
+    let rest = row_of_width(bytes, WORDS + 1).ok_or(FactFault::Malformed(row))?;
     if one_too_many(row) {
         return Err(FactFault::TooMany(row));
     }
@@ -103,6 +91,7 @@ fn next_fact<'a, W: Words>(bytes: &'a [u8], row: u32) -> Result<(Fact, &'a [u8])
     Ok((fact, rest))
 }
 
+// The count is the answer, and it numbers the rows: the bytes are no collection of rows to go over.
 fn load_rows<W: Words>(bytes: &[u8], table: &mut [Fact; MOST_FACTS]) -> Result<usize, FactFault>
     ensures answer { refused_as fact_refusal result ≡ fact_count (fact_rows W.Words.system.valid 1 (rows bytes.now)) }
     ensures table { table.new ≡ over (fact_front W.Words.system.valid 1 (rows bytes.now)) table.old }
@@ -131,11 +120,6 @@ pub fn load_facts<W: Words>(
     ensures named { Named result }
     ensures loaded { FactsLoaded W.Words.system.valid (option_map (λ x. x.now) file.entry) result table.new }
 {
-    let Some(bytes) = file else {
-        return Err(whole_file());
-    };
-    if bytes.len() > MOST_BYTES {
-        return Err(whole_file());
-    }
+    let bytes = file_bytes(file)?;
     Ok(load_rows::<W>(bytes, table)?)
 }

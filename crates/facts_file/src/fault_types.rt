@@ -2,7 +2,7 @@
 use rows::{FieldFault, Place};
 
 /// What is wrong with a row of facts.
-#[derive(Clone, Copy)]
+#[derive(Clone, Copy, Debug, PartialEq, Eq)]
 pub enum FactFault {
     /// The bytes begin no row, or the row has another number of fields.
     Malformed(u32),

@@ -4,7 +4,7 @@ ghost use Rattle.facts_file.specs.FactRefusals.{fact_refusal};
 ghost use Rattle.facts_file.specs.declared.fault_types.FactFault.TheVariants.{Field};
 
 use crate::fault_types::FactFault;
-use rows::{FieldFault, Layer, Refusal};
+use rows::{FieldFault, Layer, Place, Refusal};
 
 impl From<FieldFault> for FactFault {
     ghost from_gives = { λ e r. r ≡ Field e };
@@ -19,36 +19,11 @@ impl From<FactFault> for Refusal {
 
     fn from(fault: FactFault) -> Refusal {
         match fault {
-            FactFault::Malformed(row) => Refusal {
-                number: 7,
-                row,
-                field: 0,
-                layer: Layer::Reader,
-            },
-            FactFault::TooMany(row) => Refusal {
-                number: 11,
-                row,
-                field: 0,
-                layer: Layer::Job,
-            },
-            FactFault::Field(fault) => Refusal {
-                number: 8,
-                row: fault.place.row,
-                field: fault.place.field,
-                layer: Layer::Reader,
-            },
-            FactFault::Kind(place) => Refusal {
-                number: 1,
-                row: place.row,
-                field: place.field,
-                layer: Layer::Job,
-            },
-            FactFault::Word(place) => Refusal {
-                number: 2,
-                row: place.row,
-                field: place.field,
-                layer: Layer::Job,
-            },
+            FactFault::Malformed(row) => Refusal::at(7, Place::whole_row(row), Layer::Reader),
+            FactFault::TooMany(row) => Refusal::at(11, Place::whole_row(row), Layer::Job),
+            FactFault::Field(fault) => Refusal::at(8, fault.place, Layer::Reader),
+            FactFault::Kind(place) => Refusal::at(1, place, Layer::Job),
+            FactFault::Word(place) => Refusal::at(2, place, Layer::Job),
         }
     }
 }

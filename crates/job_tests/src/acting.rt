@@ -1,12 +1,12 @@
 //! Acts on a new job.
-use crate::jobs::{ENOUGH, expect_fact, fact};
+use crate::jobs::{ENOUGH, fact};
 use crate::rule_sets::no_rules;
 use chains::{Chains, FREE_ROW};
 use engine::{Act, CreateFault, Job, Reply, perform};
 use facts::{Fact, Lengths};
 use machine::{Answer, End};
 use std::process::Abort;
-use stores::{Row, Rows, Store};
+use stores::{Rows, Store};
 
 // What stands in the places for replies before there are any.
 const NO_REPLY: Reply = Reply::Read(None, 7, 7);
@@ -30,14 +30,14 @@ fn post_and_run<S: Store + Drop>(rt: &impl Abort, store: S) {
     assert!(rt; matches!(replies[1], Reply::Stepped(Answer::Stored)));
     assert!(rt; matches!(replies[2], Reply::Ran(End::Quiet, 3, 0)));
     assert!(rt; matches!(replies[3], Reply::Read(Some(_), 2, 0)));
-    expect_fact(rt, fact_in(replies[3]), 2, [8, 9, 10]);
+    assert_eq!(rt; fact_in(replies[3]), Some(fact(2, [8, 9, 10])));
     assert!(rt; matches!(replies[4], Reply::Read(None, 7, 7)));
     assert_eq!(rt; list, [9; 4]);
 }
 
 #[test]
 fn acts_over_rows(rt: HostRuntime) {
-    let mut table = [Row::Free; 4];
+    let mut table = [None; 4];
     post_and_run(&rt, Rows::new(&mut table));
 }
 
@@ -66,6 +66,6 @@ fn act_on_used_store<S: Store + Drop>(rt: &impl Abort, mut store: S) {
 
 #[test]
 fn a_store_with_facts_is_refused(rt: HostRuntime) {
-    let mut table = [Row::Free; 4];
+    let mut table = [None; 4];
     act_on_used_store(&rt, Rows::new(&mut table));
 }

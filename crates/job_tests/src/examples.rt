@@ -1,11 +1,11 @@
 //! The worked examples, over each store.
-use crate::jobs::{ENOUGH, expect_fact, expect_held, expect_posted, expect_quiet, fact, new_job};
+use crate::jobs::{ENOUGH, expect_held, expect_posted, expect_quiet, fact, new_job};
 use crate::recorder::new_recorder;
 use crate::rule_sets::{looped_line, sweep};
 use chains::{Chains, FREE_ROW};
 use machine::End;
 use std::process::Abort;
-use stores::{Row, Rows, Store};
+use stores::{Rows, Store};
 
 // Two segments between points 10 and 20 and a launcher at point 10 leave both points, after 31 steps and three applications.
 fn follow_line<S: Store + Drop>(rt: &impl Abort, store: S) {
@@ -24,19 +24,18 @@ fn follow_line<S: Store + Drop>(rt: &impl Abort, store: S) {
             (End::Quiet, 31, 3)
         )
     );
-    assert_eq!(rt; recorder.count, 3);
     assert_eq!(rt;
-        recorder.heard,
-        [(2, 3, 1, 1), (2, 4, 1, 1), (1, 5, 1, 0), (0, 0, 0, 0)]
+        recorder.heard.as_slice(),
+        [(2, 3, 1, 1), (2, 4, 1, 1), (1, 5, 1, 0)].as_slice()
     );
     expect_held(rt, &job, 2, 0);
-    expect_fact(rt, job.fact(4), 1, [20, 0, 0]);
-    expect_fact(rt, job.fact(5), 1, [10, 0, 0]);
+    assert_eq!(rt; job.fact(4), Some(fact(1, [20, 0, 0])));
+    assert_eq!(rt; job.fact(5), Some(fact(1, [10, 0, 0])));
 }
 
 #[test]
 fn the_looped_line_over_rows(rt: HostRuntime) {
-    let mut table = [Row::Free; 512];
+    let mut table = [None; 512];
     follow_line(&rt, Rows::new(&mut table));
 }
 
@@ -60,14 +59,14 @@ fn sweep_below<S: Store + Drop>(rt: &impl Abort, store: S) {
     expect_quiet(rt, &mut job, ENOUGH, &mut list, (13, 1));
     assert_eq!(rt; list, [4, 1, 3, 9, 9, 9, 9, 9]);
     expect_held(rt, &job, 3, 0);
-    expect_fact(rt, job.fact(2), 3, [1, 7, 0]);
-    expect_fact(rt, job.fact(5), 3, [2, 3, 0]);
-    expect_fact(rt, job.fact(6), 3, [2, 4, 0]);
+    assert_eq!(rt; job.fact(2), Some(fact(3, [1, 7, 0])));
+    assert_eq!(rt; job.fact(5), Some(fact(3, [2, 3, 0])));
+    assert_eq!(rt; job.fact(6), Some(fact(3, [2, 4, 0])));
 }
 
 #[test]
 fn a_dropall_over_rows(rt: HostRuntime) {
-    let mut table = [Row::Free; 8];
+    let mut table = [None; 8];
     sweep_below(&rt, Rows::new(&mut table));
 }
 

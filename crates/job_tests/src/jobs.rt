@@ -38,11 +38,11 @@ pub(crate) fn expect_post_refused<S: Store + Drop>(
     facts: &[Fact],
     wanted: (u8, usize),
 ) {
-    let refused = match job.post(facts) {
-        Ok(()) => None,
-        Err(fault) => Some((fault.number(), fault.named_fact())),
-    };
-    assert_eq!(rt; refused, Some(wanted));
+    let refused = job.post(facts).err();
+    assert_eq!(rt;
+        refused.map(|fault| (fault.number(), fault.named_fact())),
+        Some(wanted)
+    );
 }
 
 /// A step is refused by a number.
@@ -96,16 +96,4 @@ pub(crate) fn expect_held<S: Store + Drop>(
 ) {
     let (_, stored, waiting) = job.read(1);
     assert_eq!(rt; (stored, waiting), (facts, goals));
-}
-
-/// A fact of this kind and these words is there.
-pub(crate) fn expect_fact(rt: &impl Abort, found: Option<Fact>, kind: u8, words: [i64; WORDS]) {
-    let parts = match found {
-        Some(fact) => {
-            let words = fact.words;
-            Some((fact.kind, words))
-        }
-        None => None,
-    };
-    assert_eq!(rt; parts, Some((kind, words)));
 }

@@ -2,7 +2,7 @@
 use crate::jobs::{expect_held, expect_post_refused, expect_posted, fact, new_job};
 use crate::rule_sets::no_rules;
 use std::process::Abort;
-use stores::{Row, Rows, Store};
+use stores::{Rows, Store};
 
 // A new job has room for 512 goals, and a post that brings more is refused whole.
 fn fill_stack<S: Store + Drop>(rt: &impl Abort, store: S) {
@@ -18,7 +18,7 @@ fn fill_stack<S: Store + Drop>(rt: &impl Abort, store: S) {
 
 #[test]
 fn the_stack_has_room_for_512_facts(rt: HostRuntime) {
-    let mut table = [Row::Free; 1];
+    let mut table = [None; 1];
     fill_stack(&rt, Rows::new(&mut table));
 }
 
@@ -36,6 +36,6 @@ fn post_at_bounds<S: Store + Drop>(rt: &impl Abort, store: S) {
 
 #[test]
 fn kinds_and_words_are_judged(rt: HostRuntime) {
-    let mut table = [Row::Free; 4];
+    let mut table = [None; 4];
     post_at_bounds(&rt, Rows::new(&mut table));
 }

@@ -1,11 +1,9 @@
 //! What a refused application leaves.
-use crate::jobs::{
-    expect_fact, expect_held, expect_posted, expect_step_refused, expect_stopped, fact, new_job,
-};
+use crate::jobs::{expect_held, expect_posted, expect_step_refused, expect_stopped, fact, new_job};
 use crate::rule_sets::overflow;
 use machine::Answer;
 use std::process::Abort;
-use stores::{Row, Rows, Store};
+use stores::{Rows, Store};
 
 // The step that would apply the rule is refused again and again, and leaves the fact, its goal and the list.
 fn apply_without_value<S: Store + Drop>(rt: &impl Abort, store: S) {
@@ -17,13 +15,13 @@ fn apply_without_value<S: Store + Drop>(rt: &impl Abort, store: S) {
         expect_step_refused(rt, &mut job, &mut list, 13);
         expect_stopped(rt, &mut job, &mut list, 13, 0);
         expect_held(rt, &job, 1, 1);
-        expect_fact(rt, job.fact(1), 1, [1, 0, 0]);
+        assert_eq!(rt; job.fact(1), Some(fact(1, [1, 0, 0])));
     }
     assert_eq!(rt; list, [9; 4]);
 }
 
 #[test]
 fn a_body_without_value_changes_nothing(rt: HostRuntime) {
-    let mut table = [Row::Free; 4];
+    let mut table = [None; 4];
     apply_without_value(&rt, Rows::new(&mut table));
 }

@@ -6,7 +6,7 @@ use crate::jobs::{
 use crate::rule_sets::no_rules;
 use machine::End;
 use std::process::Abort;
-use stores::{Row, Rows, Store};
+use stores::{Rows, Store};
 
 // Of two facts the first is stored and done with, and the second finds the store full.
 fn fill_one_row<S: Store + Drop>(rt: &impl Abort, store: S) {
@@ -19,7 +19,7 @@ fn fill_one_row<S: Store + Drop>(rt: &impl Abort, store: S) {
 
 #[test]
 fn one_row_stores_one_fact(rt: HostRuntime) {
-    let mut table = [Row::Free; 1];
+    let mut table = [None; 1];
     fill_one_row(&rt, Rows::new(&mut table));
 }
 
@@ -40,7 +40,7 @@ fn fill_all_rows<S: Store + Drop>(rt: &impl Abort, store: S) {
 
 #[test]
 fn the_largest_table_stores_1024_facts(rt: HostRuntime) {
-    let mut table = [Row::Free; 1_024];
+    let mut table = [None; 1_024];
     fill_all_rows(&rt, Rows::new(&mut table));
 }
 
@@ -56,7 +56,7 @@ fn run_within_budgets<S: Store + Drop>(rt: &impl Abort, store: S) {
 
 #[test]
 fn budgets_are_kept(rt: HostRuntime) {
-    let mut table = [Row::Free; 2];
+    let mut table = [None; 2];
     run_within_budgets(&rt, Rows::new(&mut table));
 }
 
@@ -75,6 +75,6 @@ fn run_with_short_list<S: Store + Drop>(rt: &impl Abort, store: S) {
 
 #[test]
 fn a_short_list_is_refused(rt: HostRuntime) {
-    let mut table = [Row::Free; 4];
+    let mut table = [None; 4];
     run_with_short_list(&rt, Rows::new(&mut table));
 }

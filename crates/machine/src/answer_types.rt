@@ -1,7 +1,7 @@
 //! What a post, a step and a run answer.
 
 /// What there is too little of to take facts in.
-#[derive(Clone, Copy)]
+#[derive(Clone, Copy, Debug, PartialEq, Eq)]
 pub enum Shortage {
     /// There would be more than 512 goals.
     Goals,
@@ -12,7 +12,7 @@ pub enum Shortage {
 }
 
 /// Why facts are not posted. A fault of one fact names it, from 1.
-#[derive(Clone, Copy)]
+#[derive(Clone, Copy, Debug, PartialEq, Eq)]
 pub enum PostFault {
     /// The kind of this fact is not from 0 to 63.
     Kind(usize),
@@ -26,23 +26,23 @@ pub enum PostFault {
     Labels,
 }
 
-/// Why a step is refused.
-#[derive(Clone, Copy)]
+/// Why a step is refused. Each case has its number (docs/REFUSALS.md).
+#[derive(Clone, Copy, Debug, PartialEq, Eq)]
 pub enum StepFault {
     /// The caller's list is shorter than the capacity.
-    List,
+    List = 14,
     /// A term of the rule's body has no value.
-    Body,
+    Body = 13,
     /// There would be more than 512 goals.
-    Goals,
+    Goals = 11,
     /// There would be more stored facts than the capacity allows.
-    Facts,
+    Facts = 10,
     /// There would be a label above 1,000,000.
-    Labels,
+    Labels = 12,
 }
 
 /// One application of a rule.
-#[derive(Clone, Copy)]
+#[derive(Clone, Copy, Debug, PartialEq, Eq)]
 pub struct Application {
     /// The rule's number in the set, from 1.
     pub rule: u8,
@@ -57,7 +57,7 @@ pub struct Application {
 }
 
 /// What a step answers.
-#[derive(Clone, Copy)]
+#[derive(Clone, Copy, Debug, PartialEq, Eq)]
 pub enum Answer {
     /// No goal is left.
     Quiet,
@@ -76,7 +76,7 @@ pub enum Answer {
 }
 
 /// Why a run ended.
-#[derive(Clone, Copy)]
+#[derive(Clone, Copy, Debug, PartialEq, Eq)]
 pub enum End {
     /// No goal is left.
     Quiet,

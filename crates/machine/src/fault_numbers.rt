@@ -9,6 +9,7 @@ impl PostFault {
     pub fn number(self) -> u8
         ensures { result ≡ post_fault_number self }
     {
+        // A match, since an enum with data has no number to cast to.
         match self {
             PostFault::Kind(_) => 1,
             PostFault::Word(_) => 2,
@@ -37,16 +38,11 @@ impl StepFault {
     pub fn number(self) -> u8
         ensures { result ≡ step_fault_number self }
     {
-        match self {
-            StepFault::List => 14,
-            StepFault::Body => 13,
-            StepFault::Goals => 11,
-            StepFault::Facts => 10,
-            StepFault::Labels => 12,
-        }
+        self as u8
     }
 }
 
+// One impl for each fault, since each names cases of its own enum: a macro or a trait for the two would be longer.
 impl From<Shortage> for PostFault {
     ghost from_gives = { λ s e. e ≡ short_post s };
 

@@ -1,5 +1,5 @@
 -- The rows that the program prints: a word and five fields, each a number or empty, with CRLF at the end.
-use Rattle.std.specs.Prelude.{ℕ, List, [], ◌∷◌, ◌++◌, map, take, ℤ, pos, Some, None, codes, Option}
+use Rattle.std.specs.Prelude.{ℕ, List, [], ◌∷◌, ◌++◌, map, ℤ, pos, Some, None, codes, Option}
 use Rattle.std.specs.Fmt.{signed_decimal}
 use Rattle.facts.specs.declared.fact_types.Fact.{Fact}
 use Rattle.machine.specs.declared.answer_types.Application.{Application}
@@ -47,4 +47,4 @@ end_row (Stopped e) n = print_row (codes "stop") (Some (pos n) ∷ (Some (pos (s
 
 -- the bytes of a line
 abbrev pub line_text : Line → List ℕ
-line_text l = take l.len l.bytes
+line_text l = l.text.bytes

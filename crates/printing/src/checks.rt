@@ -6,41 +6,46 @@ ghost use Rattle.facts_file.specs.Facts.{fact_count, facts_file, facts_before, o
 ghost use Rattle.rules_file.specs.RuleRows.{rules_file};
 ghost use Rattle.rules_file.specs.RulesWritten.{RulesLoaded};
 ghost use Rattle.reader.specs.RuleScan.{closed_result};
+ghost use Rattle.printing.specs.Print.{refuse_row, line_text};
 ghost use Rattle.printing.specs.Checks.{outcome_of, print_of, check_print};
 
-use crate::checked_type::Checked;
 use crate::lines::refuse_row;
-use facts::{Fact, Lengths, Words};
+use crate::refused_type::Refused;
+use facts::{Fact, Lengths, WORDS, Words};
 use reader::{MOST_FACTS, Refusal, load_facts, load_rules};
 use rules::ClosedSet;
 
-// What was read, or its refusal with the row of the print.
-fn checked<T>(outcome: Result<T, Refusal>) -> Checked<T>
-    ensures outcome { outcome_of result ≡ outcome }
-    ensures print { print_of result ≡ check_print outcome }
-{
-    match outcome {
-        Ok(value) => Checked::Accepted(value),
-        Err(refusal) => Checked::Refused(refusal, refuse_row(&refusal)),
+/// What a caller's table of facts holds before a file is read into it.
+pub const NO_FACTS: [Fact; MOST_FACTS] = [Fact {
+    kind: 0,
+    words: [0; WORDS],
+}; MOST_FACTS];
+
+impl From<Refusal> for Refused {
+    ghost from_gives = { λ r e. (e.refusal ≡ r) × (line_text e.line ≡ refuse_row r) };
+
+    fn from(refusal: Refusal) -> Refused {
+        let line = refuse_row(&refusal);
+        Refused { refusal, line }
     }
 }
 
 /// Reads a file of rules into a closed set; none for the file is a file that is not there. Where it is accepted, nothing is printed.
-pub fn check_rules(file: Option<&[u8]>) -> Checked<ClosedSet<Lengths>>
+pub fn check_rules(file: Option<&[u8]>) -> Result<ClosedSet<Lengths>, Refused>
     ensures outcome { closed_result (outcome_of result) ≡ rules_file lengths.valid (option_map (λ x. x.now) file.entry) }
     ensures print { print_of result ≡ check_print (rules_file lengths.valid (option_map (λ x. x.now) file.entry)) }
     ensures loaded { RulesLoaded lengths.valid (option_map (λ x. x.now) file.entry) (closed_result (outcome_of result)) }
 {
-    checked(load_rules::<Lengths>(file))
+    Ok(load_rules::<Lengths>(file)?)
 }
 
 /// Checks a file of facts; none for the file is a file that is not there.
 /// Where it is accepted, the table begins with its facts, and nothing is printed.
-pub fn check_facts(file: Option<&[u8]>, table: &mut [Fact; MOST_FACTS]) -> Checked<usize>
+pub fn check_facts(file: Option<&[u8]>, table: &mut [Fact; MOST_FACTS]) -> Result<usize, Refused>
     ensures outcome { outcome_of result ≡ fact_count (facts_file lengths.valid (option_map (λ x. x.now) file.entry)) }
     ensures print { print_of result ≡ check_print (fact_count (facts_file lengths.valid (option_map (λ x. x.now) file.entry))) }
     ensures table { table.new ≡ over (facts_before lengths.valid (option_map (λ x. x.now) file.entry)) table.old }
     ensures loaded { FactsLoaded lengths.valid (option_map (λ x. x.now) file.entry) (outcome_of result) table.new }
 {
-    checked(load_facts::<Lengths>(file, table))
+    Ok(load_facts::<Lengths>(file, table)?)
 }

@@ -65,17 +65,11 @@ fn print_facts<W: Words + Drop, S: Store + Drop, R: Print>(
     rt: &R,
     job: &Job<W, S>,
 ) -> io::Result<()> {
-    let (_, mut left, _) = job.read(1);
-    for label in 1..=LABELS {
-        if left == 0 {
-            return Ok(());
-        }
-        if let Some(fact) = job.fact(label) {
-            rt.write_all(fact_row(label, &fact).text())?;
-            left -= 1;
-        }
-    }
-    Ok(())
+    let (_, left, _) = job.read(1);
+    (1..=LABELS)
+        .filter_map(|label| Some((label, job.fact(label)?)))
+        .take(left)
+        .try_for_each(|(label, fact)| rt.write_all(fact_row(label, &fact).text()))
 }
 
 /// A job with these rules on an empty store: the facts are posted, steps are taken, and each application, the facts left and the end

@@ -1,5 +1,5 @@
 //! A line of the print, in a buffer of its own.
-ghost use Rattle.std.specs.Prelude.{◌≡◌, ◌≤◌, length};
+use arrayvec::ArrayString;
 
 /// How many bytes a line has place for: a word of at most eight, five commas and numbers of at most twenty, and CRLF.
 pub const LINE: usize = 128;
@@ -9,8 +9,5 @@ pub const FIELDS: usize = 5;
 
 #[derive(Drop)]
 pub struct Line {
-    pub bytes: [u8; LINE],
-    pub len: usize,
-    ghost long: { length bytes ≡ 128 },
-    ghost within: { len ≤ 128 },
+    pub(crate) text: ArrayString<LINE>,
 }

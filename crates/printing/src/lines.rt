@@ -1,10 +1,11 @@
 //! How the rows of the print are made, byte for byte.
-ghost use Rattle.std.specs.Prelude.{◌≡◌, ◌+◌, ◌*◌, ◌<◌, ◌≤◌, [], ◌∷◌, ◌++◌, length, codes, decimal};
-ghost use Rattle.std.specs.Fmt.{signed_decimal};
+ghost use Rattle.std.specs.Prelude.{◌≡◌, ◌+◌, ◌≤◌, [], ◌∷◌, ◌++◌, length};
 ghost use Rattle.printing.specs.Print.{comma, shown, print_row, refuse_row, apply_row, fact_row, end_row, line_text};
 
-use crate::line_type::{FIELDS, LINE, Line};
+use crate::line_type::{FIELDS, Line};
+use arrayvec::ArrayString;
 use facts::Fact;
+use itoa::Buffer;
 use machine::{Application, End};
 use reader::Refusal;
 
@@ -13,52 +14,7 @@ impl Line {
         ensures { line_text result ≡ [] }
     {
         Line {
-            bytes: [0; LINE],
-            len: 0,
-        }
-    }
-
-    fn push(&mut self, byte: u8)
-        requires { length (line_text self.old) < 128 }
-        ensures { line_text self.new ≡ line_text self.old ++ (byte ∷ []) }
-    {
-        let at = self.len;
-        self.bytes[at] = byte;
-        self.len = at + 1;
-    }
-
-    fn push_text(&mut self, text: &[u8])
-        requires { length (line_text self.old) + length text.now ≤ 128 }
-        ensures { line_text self.new ≡ line_text self.old ++ text.now }
-    {
-        for byte in text {
-            self.push(*byte);
-        }
-    }
-
-    // A number in base ten.
-    fn push_unsigned(&mut self, number: u64)
-        requires { length (line_text self.old) + length (decimal number) ≤ 128 }
-        ensures { line_text self.new ≡ line_text self.old ++ decimal number }
-    {
-        if number < 10 {
-            self.push(b'0' + number as u8);
-        } else {
-            self.push_unsigned(number / 10);
-            self.push(b'0' + (number % 10) as u8);
-        }
-    }
-
-    fn push_signed(&mut self, number: i64)
-        requires { length (line_text self.old) + length (signed_decimal number) ≤ 128 }
-        ensures { line_text self.new ≡ line_text self.old ++ signed_decimal number }
-    {
-        let digits = number.unsigned_abs();
-        if number < 0 {
-            self.push(b'-');
-            self.push_unsigned(digits);
-        } else {
-            self.push_unsigned(digits);
+            text: ArrayString::new(),
         }
     }
 
@@ -68,9 +24,9 @@ impl Line {
         ensures text { line_text self.new ≡ line_text self.old ++ (comma ∷ shown field) }
         ensures bound { length (line_text self.new) ≤ length (line_text self.old) + 21 }
     {
-        self.push(b',');
+        self.text.push_str(",");
         if let Some(number) = field {
-            self.push_signed(number);
+            self.text.push_str(Buffer::new().format(number));
         }
     }
 
@@ -78,21 +34,21 @@ impl Line {
     pub fn text(&self) -> &[u8]
         ensures { result.now ≡ line_text self.now }
     {
-        &self.bytes[0..self.len]
+        self.text.as_str().as_bytes()
     }
 }
 
 // A row of the print: its word and its fields.
-fn print_row(word: &[u8], fields: &[Option<i64>; FIELDS]) -> Line
+fn print_row(word: &str, fields: &[Option<i64>; FIELDS]) -> Line
     requires { length word.now ≤ 8 }
     ensures { line_text result ≡ print_row word.now fields.now }
 {
     let mut line = Line::new();
-    line.push_text(word);
+    line.text.push_str(word);
     for field in fields {
         line.push_field(*field);
     }
-    line.push_text(b"\r\n");
+    line.text.push_str("\r\n");
     line
 }
 
@@ -103,7 +59,7 @@ pub fn refuse_row(refusal: &Refusal) -> Line
     let number = Some(i64::from(refusal.number));
     let row = Some(i64::from(refusal.row));
     let field = Some(i64::from(refusal.field));
-    print_row(b"refuse", &[number, row, field, None, None])
+    print_row("refuse", &[number, row, field, None, None])
 }
 
 /// The row of an application.
@@ -114,7 +70,7 @@ pub fn apply_row(application: &Application) -> Line
     let active = Some(i64::from(application.active));
     let removed = Some(i64::from(application.removed));
     let added = Some(i64::from(application.added));
-    print_row(b"apply", &[rule, active, removed, added, None])
+    print_row("apply", &[rule, active, removed, added, None])
 }
 
 /// The row of a stored fact.
@@ -125,7 +81,7 @@ pub fn fact_row(label: u32, fact: &Fact) -> Line
     let label = Some(i64::from(label));
     let kind = Some(i64::from(fact.kind));
     print_row(
-        b"fact",
+        "fact",
         &[label, kind, Some(first), Some(second), Some(third)],
     )
 }
@@ -136,11 +92,11 @@ pub fn end_row(end: End, steps: u32) -> Line
 {
     let steps = Some(i64::from(steps));
     match end {
-        End::Quiet => print_row(b"quiet", &[steps, None, None, None, None]),
-        End::Spent => print_row(b"spent", &[steps, None, None, None, None]),
+        End::Quiet => print_row("quiet", &[steps, None, None, None, None]),
+        End::Spent => print_row("spent", &[steps, None, None, None, None]),
         End::Stopped(fault) => {
             let number = Some(i64::from(fault.number()));
-            print_row(b"stop", &[steps, number, None, None, None])
+            print_row("stop", &[steps, number, None, None, None])
         }
     }
 }

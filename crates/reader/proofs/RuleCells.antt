@@ -1,48 +1,61 @@
 -- The fields of a row of rules, read one after the other.
-use Rattle.std.proofs.Common.{◌≡◌, ℕ, suc, List, [], Some, None, Option, sym, refl, ap, ◌∙◌}
-use Rattle.rows.specs.Csv.{got, broken, read_separated}
-use Rattle.rows.specs.Fields.{Shape, field_seen, place_of, placed, text_of}
-use Rattle.reader.specs.RuleScan.{place_at, row_of, Placed, with_text, text_then, texts_at}
+use Rattle.std.proofs.Common.{◌≡◌, ℕ, suc, ◌+◌, ◌-◌, ◌<◌, ◌≤◌, List, [], ◌∷◌, ◌++◌, map, length, take, set, Some, None, Option, sym, refl, ap, ◌∙◌, append_assoc, append-nil, arith}
+use Rattle.std.specs.Borrow.{Bor}
+use Rattle.std.proofs.lemmas.List.{take_all, take_more_set, length-map, map-append}
+use Rattle.rows.specs.Csv.{Part, content, Read, got, broken, read_separated}
+use Rattle.rows.specs.Fields.{Shape, placed, text_of}
+use Rattle.reader.specs.RuleScan.{cells, with_text, text_then, texts_at}
 use Rattle.reader.specs.declared.row_types.RuleRow.{RuleRow}
 use Rattle.rows.specs.declared.field_types.Place.{Place}
 use Rattle.rows.proofs.Rows.{placed-was, placed-broken}
-use Rattle.rows.proofs.Sorted.{place_sorted, text_sorted}
+use Rattle.rows.proofs.Sorted.{text_sorted}
 
-module _ (place : Place) (bs : List ℕ) where
-  pub texts_broken : (n : ℕ) → broken ≡ placed place (read_separated bs) → texts_at (suc n) bs ≡ None
-  unfolding texts_at
-  texts_broken n e = ap (text_then (texts_at n)) (placed-broken place (read_separated bs) e)
+-- these texts, and then those that follow
+abbrev pub behind_texts : List (List ℕ) → Option (List (List ℕ)) → Option (List (List ℕ))
+behind_texts ts (Some us) = Some (ts ++ us)
+behind_texts ts None = None
 
-  pub texts_got : (n : ℕ) (s : Shape) (more : List ℕ) → got s more ≡ placed place (read_separated bs) → texts_at (suc n) bs ≡ with_text (text_of s) (texts_at n more)
+-- what stands in these slices
+abbrev pub contents : List (Bor (List ℕ)) → List (List ℕ)
+contents xs = map (λ text. text.now) xs
+
+texts_push : (ts : List (List ℕ)) (t : List ℕ) (o : Option (List (List ℕ))) → behind_texts ts (with_text t o) ≡ behind_texts (ts ++ (t ∷ [])) o
+texts_push ts t (Some us) = ap (λ (x : List (List ℕ)). Some x) (sym (append_assoc ts (t ∷ []) us))
+texts_push ts t None = refl
+
+pub texts_none : (bs : List ℕ) → texts_at 6 bs ≡ behind_texts [] (texts_at 6 bs)
+texts_none bs = go (texts_at 6 bs)
+  where
+    go : (o : Option (List (List ℕ))) → o ≡ behind_texts [] o
+    go (Some us) = refl
+    go None = refl
+
+module _ (whole : Option (List (List ℕ))) (ts : List (List ℕ)) (i : ℕ) (few : i < 6) (bs : List ℕ) (inv : whole ≡ behind_texts ts (texts_at (6 - i) bs)) (place : Place) where
+  next_text : whole ≡ behind_texts ts (text_then (texts_at (6 - (i + 1))) (read_separated bs))
   unfolding texts_at
-  texts_got n s more e =
+  next_text = let e : 6 - i ≡ suc (6 - (i + 1)) = omega arith in inv ∙ ap (λ (n : ℕ). behind_texts ts (texts_at n bs)) e
+
+  pub texts-broken : broken ≡ placed place (read_separated bs) → None ≡ whole
+  texts-broken e = sym (next_text ∙ ap (λ (r : Read Part). behind_texts ts (text_then (texts_at (6 - (i + 1))) r)) (placed-broken place (read_separated bs) e))
+
+  pub texts-more : (s : Shape) (more t : List ℕ) → got s more ≡ placed place (read_separated bs) → t ≡ text_of s → whole ≡ behind_texts (ts ++ (t ∷ [])) (texts_at (6 - (i + 1)) more)
+  texts-more s more t e k =
       let w = placed-was place s more (read_separated bs) (sym e) in
-      ap (text_then (texts_at n)) w.1 ∙ ap (λ (t : List ℕ). with_text t (texts_at n more)) (sym (ap text_of w.2 ∙ text_sorted place w.0))
+      let same : content w.0 ≡ t = sym (k ∙ ap text_of w.2 ∙ text_sorted place w.0) in
+      next_text
+      ∙ ap (λ (r : Read Part). behind_texts ts (text_then (texts_at (6 - (i + 1))) r)) w.1
+      ∙ ap (λ (x : List ℕ). behind_texts ts (with_text x (texts_at (6 - (i + 1)) more))) same
+      ∙ texts_push ts t (texts_at (6 - (i + 1)) more)
 
-  pub place-got : (s : Shape) (more : List ℕ) → got s more ≡ placed place (read_separated bs) → place_of s ≡ place
-  place-got s more e = let w = placed-was place s more (read_separated bs) (sym e) in ap place_of w.2 ∙ place_sorted place w.0
-
--- one field, and then what stands in the others
-pub text-more : (place : Place) (bs : List ℕ) (n : ℕ) (s : Shape) (more : List ℕ) (o : Option (List (List ℕ))) → got s more ≡ placed place (read_separated bs) → texts_at n more ≡ o → texts_at (suc n) bs ≡ with_text (text_of s) o
-text-more place bs n s more o e k = texts_got place bs n s more e ∙ ap (with_text (text_of s)) k
-
-pub texts_end : (bs : List ℕ) → texts_at 0 bs ≡ Some []
+pub texts-all : (whole : Option (List (List ℕ))) (items : List (Bor (List ℕ))) (i : ℕ) (bs : List ℕ) → length items ≡ 6 → i ≤ 6 → 6 ≤ i → whole ≡ behind_texts (contents (take i items)) (texts_at (6 - i) bs) → Some (contents items) ≡ whole
 unfolding texts_at
-texts_end bs = refl
+texts-all whole items i bs l few all inv =
+    let none : 6 - i ≡ 0 = omega arith in
+    let front : take i items ≡ items = take_all i items (omega arith) in
+    sym (inv ∙ rw (none, front) (ap (λ (x : List (List ℕ)). Some x) (append-nil (contents items))))
 
--- six fields with their places make a row of that number
-module _ (row : ℕ) (r : RuleRow) (a : place_of (field_seen r.first) ≡ place_at row 1) where
-  same_row : row_of r ≡ row
-  same_row = ap (λ (p : Place). p.row) a
+pub cells_six : (r : RuleRow) → length (cells r) ≡ 6
+cells_six r = length-map r.texts (λ text. text.now) ∙ r.six
 
-  moved : (k : ℕ) → place_at row k ≡ place_at (row_of r) k
-  moved k = ap (λ n. place_at n k) (sym same_row)
-
-  pub placed_row :
-      place_of (field_seen r.second) ≡ place_at row 2
-      → place_of (field_seen r.third) ≡ place_at row 3
-      → place_of (field_seen r.fourth) ≡ place_at row 4
-      → place_of (field_seen r.fifth) ≡ place_at row 5
-      → place_of (field_seen r.sixth) ≡ place_at row 6
-      → Placed r × (row_of r ≡ row)
-  placed_row b c d e f = (record { first = a ∙ moved 1; second = b ∙ moved 2; third = c ∙ moved 3; fourth = d ∙ moved 4; fifth = e ∙ moved 5; sixth = f ∙ moved 6 }, same_row)
+pub contents_more : (items : List (Bor (List ℕ))) (i : ℕ) (x : Bor (List ℕ)) → i < length items → contents (take (i + 1) (set items i x)) ≡ contents (take i items) ++ (x.now ∷ [])
+contents_more items i x h = ap contents (take_more_set items i x h) ∙ map-append (λ text. text.now) (take i items) (x ∷ [])

@@ -2,15 +2,15 @@
 use Rattle.std.proofs.Common.{◌≡◌, ℕ, suc, ◌+◌, ◌<◌, ◌≤◌, Bool, List, [], ◌∷◌, map, length, ℤ, Some, None, Ok, Err, Option, sym, refl, ap, ◌∙◌, arith}
 use Rattle.std.proofs.lemmas.Bool.{eq-eqb, ne_eqb, le-ltb}
 use Rattle.rules.specs.Rules.{Rule}
-use Rattle.rows.specs.Csv.{Part, content, Read, got, broken, read_row, counted, behind_row, rows}
+use Rattle.rows.specs.Csv.{Part, content, Read, got, broken, read_row, counted, of_width, behind_row, rows}
 use Rattle.rows.specs.Refusals.{Outcome, refuse, ◌>>=◌, most_bytes}
 use Rattle.rules_file.specs.RuleRows.{State, no_rule, word, at, write_word, write_row, write_rows, rules_file}
-use Rattle.reader.specs.RuleScan.{cells, row_of, Placed, with_text, text_then, texts_at, SixFields, NotSix}
+use Rattle.reader.specs.RuleScan.{cells, with_text, text_then, texts_at, SixFields, NotSix}
 use Rattle.reader.specs.declared.row_types.RuleRow.{RuleRow}
 use Rattle.rows.specs.declared.refusal_types.Layer.TheVariants.{Reader}
 use Rattle.rows.specs.declared.refusal_types.Refusal.{Refusal}
 use Rattle.rows.proofs.Sorted.{GoesOn, goes, first_field}
-use Rattle.rows.proofs.Rows.{counted-got, counted-broken, rows_step, rows_end, row_shorter}
+use Rattle.rows.proofs.Rows.{counted-got, rows_step, rows_end, row_shorter, wide-got, wide-none}
 
 -- the six fields of a row ------------------------------------------------------------------------------------------------
 
@@ -25,23 +25,28 @@ six_texts : (fs : List Part) (bs end : List ℕ) → read_row bs ≡ got fs end 
 six_texts fs bs end e l = ap (λ (n : ℕ). texts_at n bs) (sym l) ∙ texts_of_row fs bs end (goes fs bs end e)
 
 module _ (row : ℕ) (bs : List ℕ) where
-  pub six-broken : broken ≡ counted (read_row bs) → NotSix (read_row bs)
-  six-broken e = rw (counted-broken (read_row bs) (sym e)) tt
+  pub six-uneven : None ≡ of_width 6 (counted (read_row bs)) → NotSix (read_row bs)
+  six-uneven h = go (read_row bs) refl
+    where
+      go : (r : Read (List Part)) → read_row bs ≡ r → NotSix r
+      go (got fs rest) e = wide-none 6 (length fs) (counted (read_row bs)) rest h (ap counted e)
+      go broken e = tt
 
-  pub six_uneven : (n : ℕ) (rest : List ℕ) → got n rest ≡ counted (read_row bs) → (n ≡ 6 → ⊥) → NotSix (read_row bs)
-  six_uneven n rest e other = let c = counted-got (read_row bs) n rest (sym e) in rw c.1 (λ l. other (sym c.2 ∙ l))
+  module _ (rest : List ℕ) (wide : Some rest ≡ of_width 6 (counted (read_row bs))) where
+    six_parts : (fs : List Part) × (read_row bs ≡ got fs rest) × (length fs ≡ 6)
+    six_parts = counted-got (read_row bs) 6 rest (sym (wide-got 6 (counted (read_row bs)) rest wide))
 
-  pub six-none : (n : ℕ) (rest : List ℕ) → got n rest ≡ counted (read_row bs) → n ≡ 6 → None ≡ texts_at 6 bs → ⊥
-  six-none n rest e l t =
-      let c = counted-got (read_row bs) n rest (sym e) in
-      let z : None ≡ Some (map content c.0) = t ∙ six_texts c.0 bs rest c.1 (c.2 ∙ l) in
-      let y : ◌≡◌ {A = ℕ} 0 1 = cc in omega arith
+    pub six-none : None ≡ texts_at 6 bs → ⊥
+    six-none t =
+        let c = six_parts in
+        let z : None ≡ Some (map content c.0) = t ∙ six_texts c.0 bs rest c.1 c.2 in
+        let y : ◌≡◌ {A = ℕ} 0 1 = cc in omega arith
 
-  pub six-made : (n : ℕ) (rest : List ℕ) (r : RuleRow) → got n rest ≡ counted (read_row bs) → n ≡ 6 → Some (cells r) ≡ texts_at 6 bs → Placed r → row_of r ≡ row → SixFields row bs rest r
-  six-made n rest r e l t p q =
-      let c = counted-got (read_row bs) n rest (sym e) in
-      let z : Some (cells r) ≡ Some (map content c.0) = t ∙ six_texts c.0 bs rest c.1 (c.2 ∙ l) in
-      record { parts = c.0; was = c.1; six = c.2 ∙ l; as_cells = (cc); placed = p; same_row = q }
+    pub six-made : (r : RuleRow) → Some (cells r) ≡ texts_at 6 bs → r.row ≡ row → SixFields row bs rest r
+    six-made r t q =
+        let c = six_parts in
+        let z : Some (cells r) ≡ Some (map content c.0) = t ∙ six_texts c.0 bs rest c.1 c.2 in
+        record { parts = c.0; was = c.1; six = c.2; as_cells = (cc); same_row = q }
 
 -- the loop ----------------------------------------------------------------------------------------------------------------
 
@@ -60,7 +65,7 @@ module _ (valid : ℤ → Bool) (bs : List ℕ) (st : State) (row : ℕ) (rest :
       go broken u = refl
 
   module _ (r : RuleRow) (more : List ℕ) (s : SixFields row rest more r) where
-    at_row : write_rows valid 1 no_rule (rows bs) ≡ (write_word valid (row_of r) (cells r) st (word (at 1 (cells r))) >>= λ next. write_rows valid (suc row) next (rows more))
+    at_row : write_rows valid 1 no_rule (rows bs) ≡ (write_word valid (r.row) (cells r) st (word (at 1 (cells r))) >>= λ next. write_rows valid (suc row) next (rows more))
     unfolding write_row
     at_row =
         inv.outcome
@@ -69,10 +74,10 @@ module _ (valid : ℤ → Bool) (bs : List ℕ) (st : State) (row : ℕ) (rest :
         ∙ ap (λ (cs : List (List ℕ)). write_word valid row cs st (word (at 1 cs)) >>= λ next. write_rows valid (suc row) next (rows more)) (sym s.as_cells)
         ∙ ap (λ (n : ℕ). write_word valid n (cells r) st (word (at 1 (cells r))) >>= λ next. write_rows valid (suc row) next (rows more)) (sym s.same_row)
 
-    pub word-refused : (e : Refusal) → Err e ≡ write_word valid (row_of r) (cells r) st (word (at 1 (cells r))) → Err e ≡ write_rows valid 1 no_rule (rows bs)
+    pub word-refused : (e : Refusal) → Err e ≡ write_word valid (r.row) (cells r) st (word (at 1 (cells r))) → Err e ≡ write_rows valid 1 no_rule (rows bs)
     word-refused e h = sym (at_row ∙ rw (← h) refl)
 
-    pub word-written : (new : State) → Ok new ≡ write_word valid (row_of r) (cells r) st (word (at 1 (cells r))) → LoadingRules valid bs new (row + 1) more
+    pub word-written : (new : State) → Ok new ≡ write_word valid (r.row) (cells r) st (word (at 1 (cells r))) → LoadingRules valid bs new (row + 1) more
     word-written new h =
         let next : suc row ≡ row + 1 = omega arith in
         let less : length more < length rest = row_shorter rest (length s.parts) more some (sym (ap counted s.was)) in

@@ -1,5 +1,5 @@
 -- A row written into a rule: what the rule set says of it, and the state that follows.
-use Rattle.std.proofs.Common.{◌≡◌, ℕ, ◌≤◌, Bool, List, [], ◌∷◌, ℤ, Ok, Err, Result, sym, refl, ap, ◌∙◌, arith}
+use Rattle.std.proofs.Common.{◌≡◌, ℕ, ◌≤◌, Bool, List, [], ◌∷◌, length, ℤ, Ok, Err, Result, sym, refl, ap, ◌∙◌, arith}
 use Rattle.std.proofs.lemmas.List.{length_push}
 use Rattle.std.proofs.lemmas.Bool.Decides.{nat_tests}
 use Rattle.rules.specs.declared.rule_types.RuleFault.{RuleFault}
@@ -12,15 +12,20 @@ use Rattle.rules.specs.declared.rule_types.BodyPart.{BodyPart}
 use Rattle.rules.specs.declared.rule_types.BodyPart.TheVariants as in_Body
 use Rattle.rules.specs.Rules.{Rule}
 use Rattle.rules.specs.Writing.{may_add, may_add_body, add_head, add_body, stage, done, after}
-use Rattle.rows.specs.Refusals.{Outcome, ◌>>=◌, refused_as}
+use Rattle.rows.specs.Refusals.{Outcome, refusal, ◌>>=◌, refused_as}
+use Rattle.rows.specs.declared.refusal_types.Layer.TheVariants.{RuleSet}
+use Rattle.rules.specs.declared.rule_types.RuleFault.TheVariants.{OutOfOrder}
+use Rattle.rules.specs.Sets.{body_rules, body_draft}
+use Rattle.reader.specs.declared.stage_type.Stage.{Stage}
+use Rattle.reader.specs.declared.stage_type.Stage.TheVariants.{Before, Head, Body}
 use Rattle.rules_file.specs.RuleRefusals.{row_refusal}
-use Rattle.rules_file.specs.RuleRows.{word_spelled, ruled, head_part, body_part, with_head, with_body, State, writing, write_head, write_body}
-use Rattle.reader.specs.RuleScan.{place_at, with_head_row, with_body_row, written, BegunBy}
+use Rattle.rules_file.specs.RuleRows.{word_spelled, ruled, head_part, body_part, with_head, with_body, State, no_rule, writing, write_head, write_body}
+use Rattle.reader.specs.RuleScan.{with_head_row, with_body_row, written, BegunBy, in_rule, stage_seen, Begun}
 use Rattle.rows.specs.declared.field_types.Place.{Place}
 use Rattle.rows.specs.declared.refusal_types.Refusal.{Refusal}
 use Rattle.rules_file.specs.declared.fault_types.RowFault.{RowFault}
 use Rattle.rules_file.specs.declared.word_type.RowWord.TheVariants as row_word
-use Rattle.rows.proofs.Outcomes.{no_ok}
+use Rattle.rows.proofs.Outcomes.{no_ok, same_ok}
 use Rattle.rules_file.proofs.RuleFields.{ruled_ok}
 use Rattle.rules_file.proofs.RuleLines.{head-added, body-added, head-part-was, body-part-was}
 
@@ -40,21 +45,40 @@ module _ (valid : ℤ → Bool) (row : ℕ) (r : Rule) (v w : List ℕ) (cs : Li
   body-part-same Give = refl
   body-part-same GiveAll = refl
 
-module _ (valid : ℤ → Bool) (row : ℕ) (r : Rule) (w a b c d e : List ℕ) where
-  abbrev cells : List (List ℕ)
-  cells = w ∷ (a ∷ (b ∷ (c ∷ (d ∷ (e ∷ [])))))
+-- six cells, one by one
+record Six (cs : List (List ℕ)) : Type 0 where
+  w : List ℕ
+  a : List ℕ
+  b : List ℕ
+  c : List ℕ
+  d : List ℕ
+  e : List ℕ
+  is : w ∷ (a ∷ (b ∷ (c ∷ (d ∷ (e ∷ []))))) ≡ cs
 
-  head_adds : (sort : HeadSort) (p : HeadPart) → may_add sort r ≡ Ok tt → head_part valid row r sort cells ≡ Ok p → add_head valid p r ≡ Ok (with_head p r)
+six : (cs : List (List ℕ)) → length cs ≡ 6 → Six cs
+six (w ∷ (a ∷ (b ∷ (c ∷ (d ∷ (e ∷ [])))))) l = record { w = w; a = a; b = b; c = c; d = d; e = e; is = refl }
+six (w ∷ (a ∷ (b ∷ (c ∷ (d ∷ (e ∷ (f ∷ cs))))))) l = absurd (omega arith)
+six (w ∷ (a ∷ (b ∷ (c ∷ (d ∷ []))))) l = absurd (omega arith)
+six (w ∷ (a ∷ (b ∷ (c ∷ [])))) l = absurd (omega arith)
+six (w ∷ (a ∷ (b ∷ []))) l = absurd (omega arith)
+six (w ∷ (a ∷ [])) l = absurd (omega arith)
+six (w ∷ []) l = absurd (omega arith)
+six [] l = absurd (omega arith)
+
+module _ (valid : ℤ → Bool) (row : ℕ) (r : Rule) (cs : List (List ℕ)) (l : length cs ≡ 6) where
+  head_adds : (sort : HeadSort) (p : HeadPart) → may_add sort r ≡ Ok tt → head_part valid row r sort cs ≡ Ok p → add_head valid p r ≡ Ok (with_head p r)
   head_adds sort p m h =
+      let s = six cs l in
       let v = word_spelled (row_word.Head sort) in
-      let was = head-part-was valid row r v a b c d e sort p refl (head-part-same valid row r v w (a ∷ (b ∷ (c ∷ (d ∷ (e ∷ []))))) sort ∙ h) in
-      head-added valid r p (ap (λ s. may_add s r) was.0 ∙ m) was.2
+      let was = head-part-was valid row r v s.a s.b s.c s.d s.e sort p refl (head-part-same valid row r v s.w (s.a ∷ (s.b ∷ (s.c ∷ (s.d ∷ (s.e ∷ []))))) sort ∙ ap (head_part valid row r sort) s.is ∙ h) in
+      head-added valid r p (ap (λ q. may_add q r) was.0 ∙ m) was.2
 
-  body_adds : (sort : BodySort) (p : BodyPart) → may_add_body sort r ≡ Ok tt → body_part valid row r sort cells ≡ Ok p → add_body valid p r ≡ Ok (with_body p r)
+  body_adds : (sort : BodySort) (p : BodyPart) → may_add_body sort r ≡ Ok tt → body_part valid row r sort cs ≡ Ok p → add_body valid p r ≡ Ok (with_body p r)
   body_adds sort p m h =
+      let s = six cs l in
       let v = word_spelled (row_word.Body sort) in
-      let was = body-part-was valid row r sort p v a b c d e refl (body-part-same valid row r v w (a ∷ (b ∷ (c ∷ (d ∷ (e ∷ []))))) sort ∙ h) in
-      body-added valid r p (ap (λ s. may_add_body s r) was.0 ∙ m) was.2
+      let was = body-part-was valid row r sort p v s.a s.b s.c s.d s.e refl (body-part-same valid row r v s.w (s.a ∷ (s.b ∷ (s.c ∷ (s.d ∷ (s.e ∷ []))))) sort ∙ ap (body_part valid row r sort) s.is ∙ h) in
+      body-added valid r p (ap (λ q. may_add_body q r) was.0 ∙ m) was.2
 
 -- a place that refuses nothing
 place_fine : (place : Place) (o : Result (Unit {0}) RuleFault) → Ok tt ≡ ruled place.row place.field o → o ≡ Ok tt
@@ -73,23 +97,23 @@ pub record ComesTo (add : Result (Unit {0}) RuleFault) (place : Place) (res : Re
 came_to : (add : Result (Unit {0}) RuleFault) (place : Place) (res : Result (Unit {0}) RowFault) (o : Result Rule RuleFault) (old new x : Rule) → ComesTo add place res o old new → o ≡ Ok x → (res ≡ Ok tt) × (new ≡ x)
 came_to add place res o old new x h e = (refused_fine place res add h.told (h.answer ∙ ap done e), h.after_it ∙ ap (λ (y : Result Rule RuleFault). after y old) e)
 
-module _ (valid : ℤ → Bool) (row : ℕ) (r new : Rule) (w a b c d e : List ℕ) (place : Place) (may add : Result (Unit {0}) RuleFault) (res : Result (Unit {0}) RowFault) (there : place ≡ place_at row 0) (fine : Ok tt ≡ ruled place.row place.field may) where
-  pub head_done : (sort : HeadSort) (p : HeadPart) → may ≡ may_add sort r → Ok p ≡ head_part valid row r sort (cells valid row r w a b c d e) → ComesTo add place res (add_head valid p r) r new → refused_as row_refusal (written res new) ≡ with_head_row valid row (cells valid row r w a b c d e) sort r
+module _ (valid : ℤ → Bool) (row : ℕ) (r new : Rule) (cs : List (List ℕ)) (l : length cs ≡ 6) (place : Place) (may add : Result (Unit {0}) RuleFault) (res : Result (Unit {0}) RowFault) (fine : Ok tt ≡ ruled place.row place.field may) where
+  pub head_done : (sort : HeadSort) (p : HeadPart) → may ≡ may_add sort r → Ok p ≡ head_part valid row r sort cs → ComesTo add place res (add_head valid p r) r new → refused_as row_refusal (written res new) ≡ with_head_row valid row cs sort r
   head_done sort p m h k =
       let passed : may_add sort r ≡ Ok tt = sym m ∙ place_fine place may fine in
-      let to = came_to add place res (add_head valid p r) r new (with_head p r) k (head_adds valid row r w a b c d e sort p passed (sym h)) in
+      let to = came_to add place res (add_head valid p r) r new (with_head p r) k (head_adds valid row r cs l sort p passed (sym h)) in
       rw (to.0, to.1, passed, ← h) refl
 
-  pub body-done : (sort : BodySort) (p : BodyPart) → may ≡ may_add_body sort r → Ok p ≡ body_part valid row r sort (cells valid row r w a b c d e) → ComesTo add place res (add_body valid p r) r new → refused_as row_refusal (written res new) ≡ with_body_row valid row (cells valid row r w a b c d e) sort r
+  pub body-done : (sort : BodySort) (p : BodyPart) → may ≡ may_add_body sort r → Ok p ≡ body_part valid row r sort cs → ComesTo add place res (add_body valid p r) r new → refused_as row_refusal (written res new) ≡ with_body_row valid row cs sort r
   body-done sort p m h k =
       let passed : may_add_body sort r ≡ Ok tt = sym m ∙ place_fine place may fine in
-      let to = came_to add place res (add_body valid p r) r new (with_body p r) k (body_adds valid row r w a b c d e sort p passed (sym h)) in
+      let to = came_to add place res (add_body valid p r) r new (with_body p r) k (body_adds valid row r cs l sort p passed (sym h)) in
       rw (to.0, to.1, passed, ← h) refl
 
-  pub body-begun : (sort : BodySort) (p : BodyPart) → may ≡ may_add_body sort r → Ok p ≡ body_part valid row r sort (cells valid row r w a b c d e) → ComesTo add place res (add_body valid p r) r new → BegunBy res new
+  pub body-begun : (sort : BodySort) (p : BodyPart) → may ≡ may_add_body sort r → Ok p ≡ body_part valid row r sort cs → ComesTo add place res (add_body valid p r) r new → BegunBy res new
   body-begun sort p m h k =
       let passed : may_add_body sort r ≡ Ok tt = sym m ∙ place_fine place may fine in
-      let to = came_to add place res (add_body valid p r) r new (with_body p r) k (body_adds valid row r w a b c d e sort p passed (sym h)) in
+      let to = came_to add place res (add_body valid p r) r new (with_body p r) k (body_adds valid row r cs l sort p passed (sym h)) in
       rw (to.0, to.1) (late p)
     where
       late : (q : BodyPart) → 5 ≤ stage (with_body q r)
@@ -121,3 +145,35 @@ module _ (valid : ℤ → Bool) (row : ℕ) (cs : List (List ℕ)) (done : List 
 
   pub body-written : (sort : BodySort) (new : Rule) (rules : List Rule) → rules ≡ done → Ok new ≡ with_body_row valid row cs sort r → Ok (writing rules at_row new) ≡ write_body valid row cs sort (writing done at_row r)
   body-written sort new rules e h = ap (λ (d : List Rule). Ok (writing d at_row new)) e ∙ sym (body-step sort ∙ rw (← h) refl)
+
+-- the body that a part goes to ---------------------------------------------------------------------------------------------
+
+pub in_rule-was : (row : ℕ) (st x : State) → Ok x ≡ in_rule row st → st ≡ x
+in_rule-was row no_rule x h = absurd (no_ok _ x (sym h))
+in_rule-was row (writing done at_row r) x h = same_ok {E = Refusal} (writing done at_row r) x (sym h)
+
+pub in_rule-refused : (valid : ℤ → Bool) (row : ℕ) (cs : List (List ℕ)) (sort : BodySort) (st : State) (e : Refusal) → Err e ≡ in_rule row st → Err e ≡ write_body valid row cs sort st
+in_rule-refused valid row cs sort no_rule e h = h
+in_rule-refused valid row cs sort (writing done at_row r) e h = absurd (no_ok e _ h)
+
+-- no head behind a body ----------------------------------------------------------------------------------------------------
+
+late_head : (sort : HeadSort) (r : Rule) → 5 ≤ stage r → may_add sort r ≡ Err OutOfOrder
+late_head Keep r l = grind (arith, nat_tests)
+late_head Drop r l = grind (arith, nat_tests)
+late_head KeepAll r l = grind (arith, nat_tests)
+late_head DropAll r l = grind (arith, nat_tests)
+late_head Only r l = grind (arith, nat_tests)
+late_head When r l = grind (arith, nat_tests)
+
+-- a stage at which no head may follow
+abbrev pub NoHead : {W : Type 0} → Stage W → Type 0
+NoHead Before = Unit {0}
+NoHead (Head s row) = ⊥
+NoHead (Body s row) = Unit {0}
+
+pub head_late : {W : Type 0} (valid : ℤ → Bool) (row : ℕ) (cs : List (List ℕ)) (sort : HeadSort) (st : Stage W) → NoHead st → Begun st → Err (refusal 9 row 0 RuleSet) ≡ write_head valid row cs sort (stage_seen st)
+head_late valid row cs sort Before u b = refl
+head_late valid row cs sort (Head s n) u b = absurd u
+head_late valid row cs sort (Body s n) u b =
+    sym (ap (λ (o : Result (Unit {0}) RuleFault). ruled row 0 o >>= λ _. head_part valid row (body_draft s) sort cs >>= λ p. Ok (writing (body_rules s) n (with_head p (body_draft s)))) (late_head sort (body_draft s) b))

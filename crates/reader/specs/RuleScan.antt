@@ -7,12 +7,13 @@ use Rattle.rules.specs.declared.rule_types.HeadSort.TheVariants.{Keep, Drop, Kee
 use Rattle.rules.specs.declared.rule_types.BodySort.{BodySort}
 use Rattle.rules.specs.declared.rule_types.RuleFault.{RuleFault}
 use Rattle.rules.specs.declared.closed_type.ClosedSet.{ClosedSet}
+use Rattle.rules.specs.declared.rule_types.RuleFault.TheVariants.{OutOfOrder}
 use Rattle.rules.specs.declared.set_types.OpenSet.{OpenSet}
+use Rattle.rules.specs.declared.set_types.RuleBody.{RuleBody}
 use Rattle.rules.specs.Rules.{Rule}
 use Rattle.rules.specs.Writing.{stage, single_verdict, all_verdict, may_add, may_add_body}
 use Rattle.rules.specs.Sets.{closed_rules, open_rules, head_rules, head_draft, body_rules, body_draft}
 use Rattle.rows.specs.Csv.{Part, content, Read, got, broken, read_separated, read_row}
-use Rattle.rows.specs.Fields.{field_seen, place_of, text_of}
 use Rattle.rows.specs.Refusals.{Outcome, ◌>>=◌}
 use Rattle.rules_file.specs.RuleRows.{ruled, head_part, body_part, with_head, with_body, State, no_rule, writing}
 use Rattle.rows.specs.declared.field_types.Place.{Place}
@@ -27,29 +28,10 @@ use Rattle.reader.specs.declared.stage_type.Stage.TheVariants.{Before, Head, Bod
 
 -- what stands in each of them
 abbrev pub cells : RuleRow → List (List ℕ)
-cells r =
-    text_of (field_seen r.first)
-    ∷ (text_of (field_seen r.second)
-    ∷ (text_of (field_seen r.third)
-    ∷ (text_of (field_seen r.fourth)
-    ∷ (text_of (field_seen r.fifth)
-    ∷ (text_of (field_seen r.sixth) ∷ [])))))
+cells r = map (λ text. text.now) r.texts
 
 abbrev pub place_at : ℕ → ℕ → Place
 place_at row field = record { row = row; field = field }
-
--- the row that they stand in
-abbrev pub row_of : RuleRow → ℕ
-row_of r = (place_of (field_seen r.first)).row
-
--- each field knows its row and its number
-pub record Placed (r : RuleRow) : Type 0 where
-  pub first : place_of (field_seen r.first) ≡ place_at (row_of r) 1
-  pub second : place_of (field_seen r.second) ≡ place_at (row_of r) 2
-  pub third : place_of (field_seen r.third) ≡ place_at (row_of r) 3
-  pub fourth : place_of (field_seen r.fourth) ≡ place_at (row_of r) 4
-  pub fifth : place_of (field_seen r.fifth) ≡ place_at (row_of r) 5
-  pub sixth : place_of (field_seen r.sixth) ≡ place_at (row_of r) 6
 
 abbrev pub with_text : List ℕ → Option (List (List ℕ)) → Option (List (List ℕ))
 with_text bs (Some cs) = Some (bs ∷ cs)
@@ -75,8 +57,7 @@ pub record SixFields (row : ℕ) (bs rest : List ℕ) (r : RuleRow) : Type 0 whe
   pub was : read_row bs ≡ got parts rest
   pub six : length parts ≡ 6
   pub as_cells : cells r ≡ map content parts
-  pub placed : Placed r
-  pub same_row : row_of r ≡ row
+  pub same_row : r.row ≡ row
 
 -- no row of six fields begins there
 abbrev pub NotSix : Read (List Part) → Type 0
@@ -129,6 +110,16 @@ BegunBy (Err e) r = Unit {0}
 abbrev pub stage_result : {W E : Type 0} → Result (Stage W) E → Result State E
 stage_result (Ok s) = Ok (stage_seen s)
 stage_result (Err e) = Err e
+
+-- a body, with the number of its `rule` row
+abbrev pub body_result : {W E : Type 0} → Result (RuleBody W × ℕ) E → Result State E
+body_result (Ok x) = Ok (writing (body_rules x.0) x.1 (body_draft x.0))
+body_result (Err e) = Err e
+
+-- the rule being written; a part before any `rule` row is out of order
+abbrev pub in_rule : ℕ → State → Outcome State
+in_rule row no_rule = ruled row 0 (Err OutOfOrder)
+in_rule row (writing done at_row r) = Ok (writing done at_row r)
 
 abbrev pub open_result : {W E : Type 0} → Result (OpenSet W) E → Result (List Rule) E
 open_result (Ok s) = Ok (open_rules s)

@@ -4,7 +4,6 @@ ghost use Rattle.rules.specs.declared.rule_types.RuleFault.{RuleFault};
 ghost use Rattle.rules.specs.declared.rule_types.Term.{Term};
 ghost use Rattle.rules.specs.Writing.{kind_verdict, over_verdict, term_verdict};
 ghost use Rattle.rules.specs.Sets.{head_draft, body_draft};
-ghost use Rattle.rows.specs.Fields.{field_seen, place_of, text_of};
 ghost use Rattle.rows.specs.Numbers.{number};
 ghost use Rattle.terms.specs.Terms.{term, argument};
 ghost use Rattle.rows.specs.Refusals.{refused_as};
@@ -13,9 +12,10 @@ ghost use Rattle.rules_file.specs.RuleRows.{word, relation, ruled, judged, passi
 ghost use Rattle.rows.specs.Fields.{readable};
 ghost use Rattle.reader.specs.RuleScan.{argument_verdict};
 
+use crate::row_types::Cell;
 use crate::spelling::relation_written;
 use facts::{Relation, Words};
-use rows::{Field, FieldFault, Place, place, read_number, readable, text};
+use rows::{FieldFault, Place, read_number, readable};
 use rules::{Argument, HeadSort, Operand, RuleBody, RuleFault, RuleHead, Term, judge_kind};
 use rules_file::RowFault;
 use terms::{Mark, read_argument, read_term};
@@ -24,34 +24,7 @@ use terms::{Mark, read_argument, read_term};
 pub(crate) fn placed<T>(verdict: Result<T, RuleFault>, place: Place) -> Result<T, RowFault>
     ensures { refused_as row_refusal result ≡ ruled place.row place.field verdict }
 {
-    match verdict {
-        Ok(value) => Ok(value),
-        Err(fault) => Err(RowFault::Set(fault, place)),
-    }
-}
-
-pub(crate) fn relation_field(field: Field<'_>) -> Result<Relation, RowFault>
-    ensures { refused_as row_refusal result ≡ judged (place_of (field_seen field.entry)).row (place_of (field_seen field.entry)).field (λ p. Ok p) (relation (text_of (field_seen field.entry))) }
-{
-    match relation_written(text(field)) {
-        Some(relation) => Ok(relation),
-        None => Err(RowFault::Field(FieldFault {
-            place: place(field),
-        })),
-    }
-}
-
-pub(crate) fn number_field(field: Field<'_>) -> Result<i64, FieldFault>
-    ensures { result ≡ readable (place_of (field_seen field.entry)) (number (text_of (field_seen field.entry))) }
-{
-    readable(read_number(text(field)), place(field))
-}
-
-pub(crate) fn kind_field(field: Field<'_>) -> Result<u8, RowFault>
-    ensures { refused_as row_refusal result ≡ judged (place_of (field_seen field.entry)).row (place_of (field_seen field.entry)).field kind_verdict (number (text_of (field_seen field.entry))) }
-{
-    let number = number_field(field)?;
-    placed(judge_kind(number), place(field))
+    verdict.map_err(|fault| RowFault::Set(fault, place))
 }
 
 // A word of the fact taken is no argument of a head.
@@ -91,17 +64,6 @@ fn judge_mark<W: Words>(
     Ok(argument)
 }
 
-pub(crate) fn argument_field<W: Words>(
-    rule: &RuleHead<W>,
-    sort: HeadSort,
-    field: Field<'_>,
-) -> Result<Argument, RowFault>
-    ensures { refused_as row_refusal result ≡ judged (place_of (field_seen field.entry)).row (place_of (field_seen field.entry)).field (mark_verdict (argument_verdict W.Words.system.valid (head_draft rule.now) sort)) (argument (text_of (field_seen field.entry))) }
-{
-    let mark = readable(read_argument(text(field)), place(field))?;
-    placed(judge_mark(rule, sort, mark), place(field))
-}
-
 /// A rule that is being written, for what it says of a term.
 pub(crate) trait JudgesTerms {
     ghost says: { Self → Bool → Term → Result (Unit {0}) RuleFault };
@@ -126,21 +88,51 @@ impl<W: Words> JudgesTerms for RuleBody<W> {
     }
 }
 
-pub(crate) fn term_field<J: JudgesTerms>(
-    rule: &J,
-    taken: bool,
-    field: Field<'_>,
-) -> Result<Term, RowFault>
-    ensures { refused_as row_refusal result ≡ judged (place_of (field_seen field.entry)).row (place_of (field_seen field.entry)).field (passing (J.JudgesTerms.says rule.now taken)) (term (text_of (field_seen field.entry))) }
-{
-    let term = readable(read_term(text(field)), place(field))?;
-    placed(rule.judge(taken, term), place(field))?;
-    Ok(term)
-}
+impl<'a> Cell<'a> {
+    // The relation that stands in the field.
+    pub(crate) fn relation(self) -> Result<Relation, RowFault>
+        ensures { refused_as row_refusal result ≡ judged self.entry.place.row self.entry.place.field (λ p. Ok p) (relation self.entry.text.now) }
+    {
+        Ok(readable(relation_written(self.text), self.place)?)
+    }
 
-pub(crate) fn over_field<W: Words>(rule: &RuleBody<W>, field: Field<'_>) -> Result<u8, RowFault>
-    ensures { refused_as row_refusal result ≡ judged (place_of (field_seen field.entry)).row (place_of (field_seen field.entry)).field (over_verdict (body_draft rule.now)) (number (text_of (field_seen field.entry))) }
-{
-    let number = number_field(field)?;
-    placed(rule.judge_over(number), place(field))
+    fn number(self) -> Result<i64, FieldFault>
+        ensures { result ≡ readable self.entry.place (number self.entry.text.now) }
+    {
+        readable(read_number(self.text), self.place)
+    }
+
+    pub(crate) fn kind(self) -> Result<u8, RowFault>
+        ensures { refused_as row_refusal result ≡ judged self.entry.place.row self.entry.place.field kind_verdict (number self.entry.text.now) }
+    {
+        let number = self.number()?;
+        placed(judge_kind(number), self.place)
+    }
+
+    pub(crate) fn argument<W: Words>(
+        self,
+        rule: &RuleHead<W>,
+        sort: HeadSort,
+    ) -> Result<Argument, RowFault>
+        ensures { refused_as row_refusal result ≡ judged self.entry.place.row self.entry.place.field (mark_verdict (argument_verdict W.Words.system.valid (head_draft rule.now) sort)) (argument self.entry.text.now) }
+    {
+        let mark = readable(read_argument(self.text), self.place)?;
+        placed(judge_mark(rule, sort, mark), self.place)
+    }
+
+    pub(crate) fn term<J: JudgesTerms>(self, rule: &J, taken: bool) -> Result<Term, RowFault>
+        ensures { refused_as row_refusal result ≡ judged self.entry.place.row self.entry.place.field (passing (J.JudgesTerms.says rule.now taken)) (term self.entry.text.now) }
+    {
+        let term = readable(read_term(self.text), self.place)?;
+        placed(rule.judge(taken, term), self.place)?;
+        Ok(term)
+    }
+
+    // The number of an all head.
+    pub(crate) fn over<W: Words>(self, rule: &RuleBody<W>) -> Result<u8, RowFault>
+        ensures { refused_as row_refusal result ≡ judged self.entry.place.row self.entry.place.field (over_verdict (body_draft rule.now)) (number self.entry.text.now) }
+    {
+        let number = self.number()?;
+        placed(rule.judge_over(number), self.place)
+    }
 }

@@ -5,13 +5,10 @@ ghost use Rattle.terms.specs.Terms.{term, argument};
 ghost use Rattle.rows.specs.Refusals.{refused_as};
 ghost use Rattle.rules_file.specs.RuleRefusals.{row_refusal};
 ghost use Rattle.rules_file.specs.RuleRows.{judged_each, passing, mark_verdict, words_from, head, comparison, template, head_part, body_part};
-ghost use Rattle.reader.specs.RuleScan.{cells, row_of, Placed, argument_verdict};
+ghost use Rattle.reader.specs.RuleScan.{cells, argument_verdict};
 
 use crate::row_types::RuleRow;
-use crate::rule_cells::unused_from;
-use crate::rule_fields::{
-    JudgesTerms, argument_field, kind_field, over_field, relation_field, term_field,
-};
+use crate::rule_fields::JudgesTerms;
 use facts::{WORDS, Words};
 use rules::{
     Argument, BodyPart, BodySort, Comparison, GiveAll, HeadPart, HeadSort, Operand, Pattern,
@@ -20,17 +17,17 @@ use rules::{
 use rules_file::RowFault;
 
 // The arguments of a head, in fields 3 to 5.
+// Not one function with `read_terms`: it would take a closure for the item, and its contract would say in general what each call gave.
 fn arguments<W: Words>(
     rule: &RuleHead<W>,
     sort: HeadSort,
     row: &RuleRow<'_>,
 ) -> Result<[Argument; WORDS], RowFault>
-    requires { Placed row.now }
-    ensures { refused_as row_refusal result ≡ judged_each (row_of row.now) 3 argument (mark_verdict (argument_verdict W.Words.system.valid (head_draft rule.now) sort)) (words_from 3 (cells row.now)) }
+    ensures { refused_as row_refusal result ≡ judged_each row.now.row 3 argument (mark_verdict (argument_verdict W.Words.system.valid (head_draft rule.now) sort)) (words_from 3 (cells row.now)) }
 {
     let mut args = [Argument::Any; WORDS];
-    for i in 0..WORDS {
-        args[i] = argument_field(rule, sort, row.field(3 + i))?;
+    for (i, arg) in args.iter_mut().enumerate() {
+        *arg = row.cell(3 + i).argument(rule, sort)?;
     }
     Ok(args)
 }
@@ -41,12 +38,11 @@ fn read_pattern<W: Words>(
     sort: HeadSort,
     row: &RuleRow<'_>,
 ) -> Result<Pattern, RowFault>
-    requires { Placed row.now }
-    ensures { refused_as row_refusal result ≡ head (row_of row.now) (argument_verdict W.Words.system.valid (head_draft rule.now) sort) (cells row.now) }
+    ensures { refused_as row_refusal result ≡ head row.now.row (argument_verdict W.Words.system.valid (head_draft rule.now) sort) (cells row.now) }
 {
-    let kind = kind_field(row.field(2))?;
+    let kind = row.cell(2).kind()?;
     let args = arguments(rule, sort, row)?;
-    unused_from(row, 6)?;
+    row.unused_from(6)?;
     Ok(Pattern { kind, args })
 }
 
@@ -56,13 +52,12 @@ fn read_comparison<J: JudgesTerms>(
     taken: bool,
     row: &RuleRow<'_>,
 ) -> Result<Comparison, RowFault>
-    requires { Placed row.now }
-    ensures { refused_as row_refusal result ≡ comparison (row_of row.now) (J.JudgesTerms.says rule.now taken) (cells row.now) }
+    ensures { refused_as row_refusal result ≡ comparison row.now.row (J.JudgesTerms.says rule.now taken) (cells row.now) }
 {
-    let left = term_field(rule, taken, row.field(2))?;
-    let relation = relation_field(row.field(3))?;
-    let right = term_field(rule, taken, row.field(4))?;
-    unused_from(row, 5)?;
+    let left = row.cell(2).term(rule, taken)?;
+    let relation = row.cell(3).relation()?;
+    let right = row.cell(4).term(rule, taken)?;
+    row.unused_from(5)?;
     Ok(Comparison {
         left,
         relation,
@@ -77,12 +72,12 @@ fn read_terms<J: JudgesTerms>(
     row: &RuleRow<'_>,
     first: usize,
 ) -> Result<[Term; WORDS], RowFault>
-    requires { (Placed row.now) × ((1 ≤ first) × (first ≤ 4)) }
-    ensures { refused_as row_refusal result ≡ judged_each (row_of row.now) first term (passing (J.JudgesTerms.says rule.now taken)) (words_from first (cells row.now)) }
+    requires { (1 ≤ first) × (first ≤ 4) }
+    ensures { refused_as row_refusal result ≡ judged_each row.now.row first term (passing (J.JudgesTerms.says rule.now taken)) (words_from first (cells row.now)) }
 {
     let mut terms = [Term::One(Operand::Constant(0)); WORDS];
-    for i in 0..WORDS {
-        terms[i] = term_field(rule, taken, row.field(first + i))?;
+    for (i, term) in terms.iter_mut().enumerate() {
+        *term = row.cell(first + i).term(rule, taken)?;
     }
     Ok(terms)
 }
@@ -94,12 +89,12 @@ fn read_template<J: JudgesTerms>(
     row: &RuleRow<'_>,
     first: usize,
 ) -> Result<Template, RowFault>
-    requires { (Placed row.now) × ((2 ≤ first) × (first ≤ 3)) }
-    ensures { refused_as row_refusal result ≡ template (row_of row.now) first (J.JudgesTerms.says rule.now taken) (cells row.now) }
+    requires { (2 ≤ first) × (first ≤ 3) }
+    ensures { refused_as row_refusal result ≡ template row.now.row first (J.JudgesTerms.says rule.now taken) (cells row.now) }
 {
-    let kind = kind_field(row.field(first))?;
+    let kind = row.cell(first).kind()?;
     let terms = read_terms(rule, taken, row, first + 1)?;
-    unused_from(row, first + 4)?;
+    row.unused_from(first + 4)?;
     Ok(Template { kind, terms })
 }
 
@@ -108,16 +103,15 @@ pub(crate) fn read_head_part<W: Words>(
     sort: HeadSort,
     row: &RuleRow<'_>,
 ) -> Result<HeadPart, RowFault>
-    requires { Placed row.now }
-    ensures { refused_as row_refusal result ≡ head_part W.Words.system.valid (row_of row.now) (head_draft rule.now) sort (cells row.now) }
+    ensures { refused_as row_refusal result ≡ head_part W.Words.system.valid row.now.row (head_draft rule.now) sort (cells row.now) }
 {
     match sort {
-        HeadSort::Keep => Ok(HeadPart::Keep(read_pattern(rule, HeadSort::Keep, row)?)),
-        HeadSort::Drop => Ok(HeadPart::Drop(read_pattern(rule, HeadSort::Drop, row)?)),
-        HeadSort::KeepAll => Ok(HeadPart::KeepAll(read_pattern(rule, HeadSort::KeepAll, row)?)),
-        HeadSort::DropAll => Ok(HeadPart::DropAll(read_pattern(rule, HeadSort::DropAll, row)?)),
-        HeadSort::Only => Ok(HeadPart::Only(read_comparison(rule, true, row)?)),
-        HeadSort::When => Ok(HeadPart::When(read_comparison(rule, false, row)?)),
+        HeadSort::Keep => read_pattern(rule, HeadSort::Keep, row).map(HeadPart::Keep),
+        HeadSort::Drop => read_pattern(rule, HeadSort::Drop, row).map(HeadPart::Drop),
+        HeadSort::KeepAll => read_pattern(rule, HeadSort::KeepAll, row).map(HeadPart::KeepAll),
+        HeadSort::DropAll => read_pattern(rule, HeadSort::DropAll, row).map(HeadPart::DropAll),
+        HeadSort::Only => read_comparison(rule, true, row).map(HeadPart::Only),
+        HeadSort::When => read_comparison(rule, false, row).map(HeadPart::When),
     }
 }
 
@@ -126,13 +120,12 @@ pub(crate) fn read_body_part<W: Words>(
     sort: BodySort,
     row: &RuleRow<'_>,
 ) -> Result<BodyPart, RowFault>
-    requires { Placed row.now }
-    ensures { refused_as row_refusal result ≡ body_part W.Words.system.valid (row_of row.now) (body_draft rule.now) sort (cells row.now) }
+    ensures { refused_as row_refusal result ≡ body_part W.Words.system.valid row.now.row (body_draft rule.now) sort (cells row.now) }
 {
     match sort {
-        BodySort::Give => Ok(BodyPart::Give(read_template(rule, false, row, 2)?)),
+        BodySort::Give => read_template(rule, false, row, 2).map(BodyPart::Give),
         BodySort::GiveAll => {
-            let over = over_field(rule, row.field(2))?;
+            let over = row.cell(2).over(rule)?;
             let each = read_template(rule, true, row, 3)?;
             Ok(BodyPart::GiveAll(GiveAll { over, each }))
         }

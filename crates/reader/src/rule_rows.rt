@@ -9,11 +9,9 @@ ghost use Rattle.reader.specs.RuleScan.{RowRead, closed_result};
 ghost use Rattle.rules_file.specs.RulesWritten.{RulesLoaded};
 
 use crate::row_types::{RuleRow, WIDTH};
-use crate::rule_cells::read_cells;
-use crate::rule_stages::{end_rule, write_row};
 use crate::stage_type::Stage;
 use facts::Words;
-use rows::{MOST_BYTES, Refusal, read_row, whole_file};
+use rows::{Refusal, file_bytes, row_of_width};
 use rules::ClosedSet;
 use rules_file::RowFault;
 
@@ -21,18 +19,12 @@ use rules_file::RowFault;
 fn next_row<'a>(bytes: &'a [u8], row: u32) -> Result<(RuleRow<'a>, &'a [u8]), RowFault>
     ensures { RowRead row bytes.now result }
 {
-    let Some((count, rest)) = read_row(bytes) else {
-        return Err(RowFault::Malformed(row));
-    };
-    if count != WIDTH {
-        return Err(RowFault::Malformed(row));
-    }
-    let Some(cells) = read_cells(bytes, row) else {
-        return Err(RowFault::Malformed(row));
-    };
+    let rest = row_of_width(bytes, WIDTH).ok_or(RowFault::Malformed(row))?;
+    let cells = RuleRow::read(bytes, row).ok_or(RowFault::Malformed(row))?;
     Ok((cells, rest))
 }
 
+// The rows are numbered by hand: the bytes are no collection of rows to go over.
 fn load_rows<W: Words>(bytes: &[u8]) -> Result<ClosedSet<W>, RowFault>
     requires { length bytes.now ≤ 65536 }
     ensures { refused_as row_refusal (closed_result result) ≡ write_rows W.Words.system.valid 1 no_rule (rows bytes.now) }
@@ -42,11 +34,11 @@ fn load_rows<W: Words>(bytes: &[u8]) -> Result<ClosedSet<W>, RowFault>
     let mut row = 1;
     while !rest.is_empty() {
         let (cells, more) = next_row(rest, row)?;
-        stage = write_row(stage, &cells)?;
+        stage = stage.write_row(&cells)?;
         rest = more;
         row += 1;
     }
-    Ok(end_rule(stage)?.close())
+    Ok(stage.end_rule()?.close())
 }
 
 /// Reads the rules of a file into a set and closes it; none for the file is a file that is not there.
@@ -55,11 +47,6 @@ pub fn load_rules<W: Words>(file: Option<&[u8]>) -> Result<ClosedSet<W>, Refusal
     ensures named { NamedRules result }
     ensures loaded { RulesLoaded W.Words.system.valid (option_map (λ x. x.now) file.entry) (closed_result result) }
 {
-    let Some(bytes) = file else {
-        return Err(whole_file());
-    };
-    if bytes.len() > MOST_BYTES {
-        return Err(whole_file());
-    }
+    let bytes = file_bytes(file)?;
     Ok(load_rows::<W>(bytes)?)
 }

@@ -1,7 +1,7 @@
 //! Words by their spelling: those that a row of rules begins with, and the relations.
-ghost use Rattle.std.specs.Prelude.{◌≡◌, ℕ, List};
+ghost use Rattle.std.specs.Prelude.{◌≡◌, ℕ, List, find};
 ghost use Rattle.std.specs.Str.{bytes_eq};
-ghost use Rattle.rules_file.specs.RuleRows.{word_spelled, relation_spelled, by_spelling, word, relation};
+ghost use Rattle.rules_file.specs.RuleRows.{word_spelled, relation_spelled, word, relation};
 
 use facts::Relation;
 use rules::{BodySort, HeadSort};
@@ -46,22 +46,11 @@ impl Spelled for Relation {
     }
 }
 
-fn same(text: &[u8], spelling: &[u8]) -> bool
-    ensures { result ≡ bytes_eq text.now spelling.now }
-{
-    text == spelling
-}
-
 // The first that is spelled so.
 fn find_spelled<T: Spelled>(all: &[T], text: &[u8]) -> Option<T>
-    ensures { result ≡ by_spelling T.Spelled.spelling all.now text.now }
+    ensures { result ≡ find (λ x. bytes_eq text.now (T.Spelled.spelling x)) all.now }
 {
-    for one in all {
-        if same(text, one.spelled()) {
-            return Some(*one);
-        }
-    }
-    None
+    all.iter().copied().find(|one| text == one.spelled())
 }
 
 pub(crate) fn word_written(text: &[u8]) -> Option<RowWord>

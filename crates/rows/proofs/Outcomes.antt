@@ -1,12 +1,24 @@
 -- Outcomes: a value or a refusal.
-use Rattle.std.proofs.Common.{◌≡◌, ℕ, Bool, true, false, cond, Ok, Err, Result, refl, arith}
-use Rattle.rows.specs.Refusals.{◌>>=◌}
+use Rattle.std.proofs.Common.{◌≡◌, ℕ, ◌≤◌, Bool, true, false, cond, ltb, List, length, Some, None, Ok, Err, Option, Result, sym, refl, ap, subst, arith}
+use Rattle.std.specs.Option.{ok_or}
+use Rattle.std.proofs.lemmas.Bool.{ltb-false}
+use Rattle.rows.specs.declared.refusal_types.Layer.TheVariants.{Reader}
+use Rattle.rows.specs.declared.refusal_types.Refusal.{Refusal}
+use Rattle.rows.specs.Refusals.{refusal, refuse, ◌>>=◌, most_bytes, file_bytes}
 
 pub no_ok : {X E : Type 0} (e : E) (x : X) → ◌≡◌ {A = Result X E} (Err e) (Ok x) → ⊥
 no_ok e x h = let z : ◌≡◌ {A = ℕ} 0 1 = cc in omega arith
 
 pub same_ok : {X E : Type 0} (x y : X) → ◌≡◌ {A = Result X E} (Ok x) (Ok y) → x ≡ y
 same_ok x y h = cc
+
+pub same_err : {X E : Type 0} (d e : E) → ◌≡◌ {A = Result X E} (Err d) (Err e) → d ≡ e
+same_err d e h = cc
+
+-- what stands in place of a value that is not there
+pub or_err : {X E : Type 0} (o : Option X) (e d : E) → Err d ≡ ok_or o e → d ≡ e
+or_err (Some x) e d h = absurd (no_ok d x h)
+or_err None e d h = cc
 
 pub bind_ok : {X Y E : Type 0} (r : Result X E) (then : X → Result Y E) (y : Y) → (r >>= then) ≡ Ok y → (x : X) × (r ≡ Ok x) × (then x ≡ Ok y)
 bind_ok (Ok x) then y h = (x, refl, h)
@@ -21,3 +33,25 @@ let_by false e r x h = (refl, h)
 pub let_in : {X E : Type 0} (b : Bool) (e : E) (r : Result X E) (x : X) → cond b r (Err e) ≡ Ok x → (b ≡ true) × (r ≡ Ok x)
 let_in true e r x h = (refl, h)
 let_in false e r x h = absurd (no_ok e x h)
+
+-- the bytes of a file -------------------------------------------------------------------------------------------------
+
+-- a file that is not there or is too long
+abbrev pub NoBytes : Option (List ℕ) → Type 0
+NoBytes None = Unit {0}
+NoBytes (Some bs) = ltb most_bytes (length bs) ≡ true
+
+pub bytes-refused : (file : Option (List ℕ)) (e : Refusal) → Err e ≡ file_bytes file → (e ≡ refusal 7 0 0 Reader) × NoBytes file
+bytes-refused None e h = (same_err _ _ h, tt)
+bytes-refused (Some bs) e h = go (ltb most_bytes (length bs)) refl h
+  where
+    go : (t : Bool) → ltb most_bytes (length bs) ≡ t → Err e ≡ cond t (refuse 7 0 0 Reader) (Ok bs) → (e ≡ refusal 7 0 0 Reader) × (ltb most_bytes (length bs) ≡ true)
+    go true l h = (same_err _ _ h, l)
+    go false l h = absurd (no_ok e bs h)
+
+pub bytes-there : (file : Option (List ℕ)) (bs : List ℕ) → Ok bs ≡ file_bytes file → (file ≡ Some bs) × (length bs ≤ most_bytes)
+bytes-there None bs h = absurd (no_ok _ bs (sym h))
+bytes-there (Some cs) bs h =
+    let w = let_by (ltb most_bytes (length cs)) (refusal 7 0 0 Reader) (Ok cs) bs (sym h) in
+    let same : cs ≡ bs = same_ok {E = Refusal} cs bs w.1 in
+    (ap Some same, subst (λ (x : List ℕ). length x ≤ most_bytes) same (ltb-false most_bytes (length cs) w.0))

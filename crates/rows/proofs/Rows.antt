@@ -1,6 +1,7 @@
 -- Rows, field by field and row by row: what is left of the bytes gives the answer, behind what was counted.
-use Rattle.std.proofs.Common.{◌≡◌, ℕ, suc, ◌+◌, ◌<◌, ◌≤◌, ◌⊎◌, List, [], ◌∷◌, ◌++◌, map, length, Ok, Err, Result, sym, refl, ap, ◌∙◌, subst, inl, inr, arith, length-append}
-use Rattle.rows.specs.Csv.{comma, cr, lf, Part, FieldWritten, Ends, Separates, BeginsField, behind, separated, read_separated, Read, got, broken, read_field, Next, file_ends, next_field, next_row, neither, next, with_field, go_on, behind_field, read_row, counted, RowGrammar, Row, fields, malformed, behind_row, rows, one_more, row_count, Written, Faulty, FileGrammar}
+use Rattle.std.proofs.lemmas.Bool.{eq-eqb, eqb-true}
+use Rattle.std.proofs.Common.{◌≡◌, ℕ, suc, ◌+◌, ◌<◌, ◌≤◌, ◌⊎◌, Bool, true, false, cond, eqb, Some, None, List, [], ◌∷◌, ◌++◌, map, length, Ok, Err, Result, sym, refl, ap, ◌∙◌, subst, inl, inr, arith, length-append}
+use Rattle.rows.specs.Csv.{comma, cr, lf, Part, FieldWritten, Ends, Separates, BeginsField, behind, separated, read_separated, Read, got, broken, read_field, Next, file_ends, next_field, next_row, neither, next, with_field, go_on, behind_field, read_row, counted, of_width, RowGrammar, Row, fields, malformed, behind_row, rows, one_more, row_count, Written, Faulty, FileGrammar}
 use Rattle.rows.specs.Fields.{Shape, sorted_as, placed, FieldGrammar}
 use Rattle.rows.specs.declared.field_types.Place.{Place}
 use Rattle.rows.proofs.Csv.{field-read, field-was, next-comma, Follows, next-was, row_unbounded, rows_unbounded, tail_shorter, no-got, reads-written, written_read}
@@ -210,3 +211,19 @@ field_read_so place bs r e =
       was = λ s rest h. let w = placed-was place s rest (read_separated bs) (sym e ∙ h) in (w.0, separated-was w.0 rest bs w.1, w.2);
       none = λ h f rest b. no-got (sorted_as place f) rest (sym h ∙ e ∙ ap (placed place) (separated-reads f rest bs b));
     }
+
+-- a row of so many fields -------------------------------------------------------------------------------------------
+
+pub wide-got : (n : ℕ) (r : Read ℕ) (rest : List ℕ) → Some rest ≡ of_width n r → got n rest ≡ r
+wide-got n (got m more) rest h = go (eqb m n) refl h
+  where
+    go : (t : Bool) → eqb m n ≡ t → Some rest ≡ cond t (Some more) None → got n rest ≡ got m more
+    go true e h = let same : m ≡ n = eqb-true m n e in let left : rest ≡ more = cc in cc
+    go false e h = let z : ◌≡◌ {A = ℕ} 0 1 = cc in absurd (omega arith)
+wide-got n broken rest h = let z : ◌≡◌ {A = ℕ} 0 1 = cc in absurd (omega arith)
+
+pub wide-none : (n m : ℕ) (r : Read ℕ) (rest : List ℕ) → None ≡ of_width n r → r ≡ got m rest → m ≡ n → ⊥
+wide-none n m r rest h e same =
+    let met : of_width n r ≡ Some rest = rw (e, eq-eqb m n same) refl in
+    let apart : None ≡ Some rest = h ∙ met in
+    let z : ◌≡◌ {A = ℕ} 0 1 = cc in omega arith

@@ -1,6 +1,7 @@
 -- The scans of a field, step by step: what is left of the bytes gives the answer, behind what was passed.
-use Rattle.std.proofs.Common.{◌≡◌, ℕ, zero, suc, ◌+◌, ◌-◌, ◌<◌, ◌≤◌, true, false, eqb, List, [], ◌∷◌, ◌++◌, length, get_or, take, drop, sym, refl, ap, ◌∙◌, subst, append_assoc, append-nil, arith}
+use Rattle.std.proofs.Common.{◌≡◌, ℕ, zero, suc, ◌+◌, ◌-◌, ◌<◌, ◌≤◌, Bool, true, false, eqb, List, [], ◌∷◌, ◌++◌, length, get_or, take, drop, sym, refl, ap, ◌∙◌, append_assoc, append-nil, arith}
 use Rattle.std.proofs.lemmas.List.{take_more, drop_more, drop_all, get_or-drop, take_rest}
+use Rattle.std.specs.List.{prefix_len}
 use Rattle.rows.specs.Csv.{quote, comma, cr, lf, text, loose, bare, quoted, Read, got, broken, before, read_bare, read_escaped, made, read_field, next, next_field, next_row}
 use Rattle.rows.proofs.Csv.{next-comma}
 
@@ -30,19 +31,14 @@ passed-more read bs i h step p =
 
 -- text as it stands ---------------------------------------------------------------------------------------
 
-pub bare-more : (bs : List ℕ) (i : ℕ) → i < length bs → text (get_or bs i 0) ≡ true → Passed read_bare bs i → Passed read_bare bs (i + 1)
-bare-more bs i h t p = passed-more read_bare bs i h (rw t) p
+bare_step : (t : Bool) (b : ℕ) (bs : List ℕ) → text b ≡ t → read_bare bs ≡ got (take (prefix_len text bs) bs) (drop (prefix_len text bs) bs) → read_bare (b ∷ bs) ≡ got (take (prefix_len text (b ∷ bs)) (b ∷ bs)) (drop (prefix_len text (b ∷ bs)) (b ∷ bs))
+bare_step true b bs h e = let one : 1 + prefix_len text bs ≡ suc (prefix_len text bs) = omega arith in rw (h, e, one) refl
+bare_step false b bs h e = rw h refl
 
-stopped : (read : List ℕ → Read (List ℕ)) (bs : List ℕ) (i : ℕ) → read (drop i bs) ≡ got [] (drop i bs) → Passed read bs i → read bs ≡ got (take i bs) (drop i bs)
-stopped read bs i e p = p ∙ ap (before (take i bs)) e ∙ ap (λ (x : List ℕ). got x (drop i bs)) (append-nil (take i bs))
-
-pub bare_stop : (bs : List ℕ) (i : ℕ) → i < length bs → text (get_or bs i 0) ≡ false → Passed read_bare bs i → read_bare bs ≡ got (take i bs) (drop i bs)
-bare_stop bs i h t p = stopped read_bare bs i (rw (drop_more bs i 0 h, t)) p
-
-pub bare-all : (bs : List ℕ) (i : ℕ) → i ≤ length bs → length bs ≤ i → Passed read_bare bs i → read_bare bs ≡ got (take (length bs) bs) (drop (length bs) bs)
-bare-all bs i l h p =
-    let same : i ≡ length bs = omega arith in
-    subst (λ (n : ℕ). read_bare bs ≡ got (take n bs) (drop n bs)) same (stopped read_bare bs i (rw (drop_all i bs h)) p)
+-- the longest front of text is read
+pub bare_prefix : (bs : List ℕ) → read_bare bs ≡ got (take (prefix_len text bs) bs) (drop (prefix_len text bs) bs)
+bare_prefix [] = refl
+bare_prefix (b ∷ bs) = bare_step (text b) b bs refl (bare_prefix bs)
 
 -- between quotes --------------------------------------------------------------------------------------------
 

@@ -1,5 +1,5 @@
 -- RFC 4180 with CRLF: which bytes are the writing of which rows, and how rows are read from bytes.
-use Rattle.std.specs.Prelude.{◌≡◌, ℕ, zero, suc, ◌≤◌, Bool, true, cond, ◌&&◌, ◌||◌, List, [], ◌∷◌, ◌++◌, map, length, Ok, Err, Result, ◌==◌, nat_le}
+use Rattle.std.specs.Prelude.{◌≡◌, ℕ, zero, suc, ◌≤◌, Bool, true, cond, ◌&&◌, ◌||◌, List, [], ◌∷◌, ◌++◌, map, length, Some, None, Ok, Err, Option, Result, ◌==◌, nat_le}
 
 abbrev pub quote : ℕ
 quote = 0x22
@@ -198,6 +198,11 @@ rows bs = read_rows (length bs) bs
 abbrev pub counted : Read (List Part) → Read ℕ
 counted (got fs rest) = got (length fs) rest
 counted broken = broken
+
+-- the bytes behind a row of so many fields, or that there is no such row
+abbrev pub of_width : ℕ → Read ℕ → Option (List ℕ)
+of_width n (got m rest) = cond (m == n) (Some rest) None
+of_width n broken = None
 
 -- one row more before those counted
 abbrev pub one_more : Result ℕ ℕ → Result ℕ ℕ

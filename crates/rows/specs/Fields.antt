@@ -16,11 +16,11 @@ abbrev pub part_seen : Part → csv.Part
 part_seen (part.Bare bs) = csv.bare bs.now
 part_seen (part.Quoted bs) = csv.quoted bs.now
 
-abbrev pub after_seen : After → csv.Next
-after_seen after.FileEnd = csv.file_ends
-after_seen (after.Field bs) = csv.next_field bs.now
-after_seen (after.Row bs) = csv.next_row bs.now
-after_seen after.Neither = csv.neither
+abbrev pub after_seen : Option After → csv.Next
+after_seen (Some after.FileEnd) = csv.file_ends
+after_seen (Some (after.Field bs)) = csv.next_field bs.now
+after_seen (Some (after.Row bs)) = csv.next_row bs.now
+after_seen None = csv.neither
 
 -- the count of a row's fields and the bytes behind it, or that there is no row
 abbrev pub count_seen : Option (ℕ × Bor (List ℕ)) → csv.Read ℕ

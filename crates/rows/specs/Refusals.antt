@@ -1,5 +1,7 @@
 -- What a file's reading comes to: a value, or the refusal of a row.
-use Rattle.std.specs.Prelude.{◌≡◌, ℕ, Bool, true, ◌&&◌, ◌||◌, Ok, Err, Result, ◌==◌, nat_le}
+use Rattle.std.specs.Prelude.{◌≡◌, ℕ, Bool, true, cond, ◌&&◌, ◌||◌, List, length, Some, None, Ok, Err, Option, Result, ◌==◌, nat_lt, nat_le}
+use Rattle.std.specs.Borrow.{Bor}
+use Rattle.rows.specs.declared.field_types.Place.{Place}
 use Rattle.rows.specs.declared.refusal_types.Layer.{Layer}
 use Rattle.rows.specs.declared.refusal_types.Layer.TheVariants.{Reader}
 use Rattle.rows.specs.declared.refusal_types.Refusal.{Refusal}
@@ -32,6 +34,20 @@ field_refusal fault = refusal 8 fault.place.row fault.place.field Reader
 
 abbrev pub most_bytes : ℕ
 most_bytes = 65536
+
+-- the place of a row as a whole
+abbrev pub whole_row : ℕ → Place
+whole_row row = record { row = row; field = 0 }
+
+-- the bytes of a file; it is refused where it is not there or is too long
+abbrev pub file_bytes : Option (List ℕ) → Outcome (List ℕ)
+file_bytes None = refuse 7 0 0 Reader
+file_bytes (Some bs) = cond (nat_lt most_bytes (length bs)) (refuse 7 0 0 Reader) (Ok bs)
+
+-- the same, as the program holds it
+abbrev pub bytes_seen : {E : Type 0} → Result (Bor (List ℕ)) E → Result (List ℕ) E
+bytes_seen (Ok bs) = Ok bs.now
+bytes_seen (Err e) = Err e
 
 -- what a refusal names: its number tells its layer, and whether it names a field ------------------------------
 

@@ -1,6 +1,8 @@
 //! Rows and fields by RFC 4180 with CRLF, read from the file's bytes and borrowed from them.
 ghost use Rattle.std.specs.Prelude.{◌≡◌, ℕ, ◌+◌, ◌<◌, ◌≤◌, length, take, drop, MatchOption, ◌==◌, slice_index};
-ghost use Rattle.rows.specs.Csv.{quote, text, loose, got, broken, read_bare, read_escaped, read_field, next, read_row, counted, rows, row_count, RowGrammar, FileGrammar, read_separated};
+ghost use Rattle.std.specs.List.{prefix_len};
+ghost use Rattle.std.specs.Option.{option_map};
+ghost use Rattle.rows.specs.Csv.{quote, text, loose, got, broken, read_bare, read_escaped, read_field, next, read_row, counted, of_width, rows, row_count, RowGrammar, FileGrammar, read_separated};
 ghost use Rattle.rows.specs.Fields.{part_seen, after_seen, count_seen, field_seen, is_letter, sorted_as, placed, placed_seen, FieldGrammar};
 
 use crate::field_types::{After, Field, Part, Place};
@@ -23,14 +25,9 @@ fn is_loose(byte: u8) -> bool
 // The length of the longest front of text.
 fn bare_length(bytes: &[u8]) -> usize
     ensures within { result ≤ length bytes.now }
-    ensures front { read_bare bytes.now ≡ got (take result bytes.now) (drop result bytes.now) }
+    ensures front { result ≡ prefix_len text bytes.now }
 {
-    for (i, byte) in bytes.iter().enumerate() {
-        if !is_text(*byte) {
-            return i;
-        }
-    }
-    bytes.len()
+    bytes.iter().take_while(|byte| is_text(**byte)).count()
 }
 
 fn quote_at(bytes: &[u8], at: usize) -> bool
@@ -40,6 +37,7 @@ fn quote_at(bytes: &[u8], at: usize) -> bool
 }
 
 // Behind an opening quote: where its closing quote stands.
+// Steps are of one byte or two, so the index moves by hand. As a loop over slice patterns it did not close: four goals stayed open.
 fn closing_quote(bytes: &[u8]) -> Option<usize>
     ensures { MatchOption result (read_escaped bytes.now ≡ broken) (λ n. (n < length bytes.now) × (read_escaped bytes.now ≡ got (take n bytes.now) (drop (n + 1) bytes.now))) }
 {
@@ -74,14 +72,14 @@ fn read_part<'a>(bytes: &'a [u8]) -> Option<(Part<'a>, &'a [u8])>
     }
 }
 
-fn after_field<'a>(bytes: &'a [u8]) -> After<'a>
+fn after_field<'a>(bytes: &'a [u8]) -> Option<After<'a>>
     ensures { after_seen result ≡ next bytes.now }
 {
     match bytes {
-        [] => After::FileEnd,
-        [b',', more @ ..] => After::Field(more),
-        [b'\r', b'\n', more @ ..] => After::Row(more),
-        _ => After::Neither,
+        [] => Some(After::FileEnd),
+        [b',', more @ ..] => Some(After::Field(more)),
+        [b'\r', b'\n', more @ ..] => Some(After::Row(more)),
+        _ => None,
     }
 }
 
@@ -90,18 +88,26 @@ pub fn read_row<'a>(bytes: &'a [u8]) -> Option<(usize, &'a [u8])>
     ensures reads { count_seen result ≡ counted (read_row bytes.now) }
     ensures grammar { RowGrammar bytes.now (count_seen result) }
 {
+    // The count is part of the answer, and each turn goes on with the bytes that it leaves: there is nothing to enumerate.
     let mut fields = 0;
     let mut rest = bytes;
     loop {
         let (_, after) = read_part(rest)?;
         fields += 1;
-        match after_field(after) {
+        match after_field(after)? {
             After::Field(more) => rest = more,
             After::Row(more) => return Some((fields, more)),
             After::FileEnd => return Some((fields, after)),
-            After::Neither => return None,
         }
     }
+}
+
+/// The bytes behind the row at the beginning of the bytes, if there is a row there and it has so many fields.
+pub fn row_of_width<'a>(bytes: &'a [u8], width: usize) -> Option<&'a [u8]>
+    ensures { option_map (λ x. x.now) result ≡ of_width width (counted (read_row bytes.now)) }
+{
+    let (count, rest) = read_row(bytes)?;
+    if count == width { Some(rest) } else { None }
 }
 
 /// How many rows the bytes have, or the number of the first that is malformed.
@@ -109,14 +115,13 @@ pub fn row_count(bytes: &[u8]) -> Result<usize, usize>
     ensures reads { result ≡ row_count (rows bytes.now) }
     ensures grammar { FileGrammar bytes.now result }
 {
+    // The count is the answer, and each turn goes on with the bytes that it leaves: there is nothing to enumerate.
     let mut rows = 0;
     let mut rest = bytes;
     while !rest.is_empty() {
         rows += 1;
-        match read_row(rest) {
-            Some((_, more)) => rest = more,
-            None => return Err(rows),
-        }
+        let (_, more) = read_row(rest).ok_or(rows)?;
+        rest = more;
     }
     Ok(rows)
 }
@@ -147,12 +152,11 @@ fn sorted<'a>(part: Part<'a>, place: Place) -> Field<'a>
 fn field_and_rest<'a>(bytes: &'a [u8], place: Place) -> Option<(Field<'a>, &'a [u8])>
     ensures { placed_seen result ≡ placed place (read_separated bytes.now) }
 {
-    let (part, after) = read_part(bytes)?;
+    let (part, behind) = read_part(bytes)?;
     let field = sorted(part, place);
-    match after_field(after) {
+    match after_field(behind)? {
         After::Field(more) | After::Row(more) => Some((field, more)),
-        After::FileEnd => Some((field, after)),
-        After::Neither => None,
+        After::FileEnd => Some((field, behind)),
     }
 }
 

@@ -1,14 +1,14 @@
 //! A field of a row: a part of the file's bytes, sorted by what it looks like, with its place.
 
 /// Where a field stands. Rows and fields count from 1.
-#[derive(Clone, Copy)]
+#[derive(Clone, Copy, Debug, PartialEq, Eq)]
 pub struct Place {
     pub row: u32,
     pub field: u32,
 }
 
 /// A field, with the part of the file's bytes that it is and its place.
-#[derive(Clone, Copy)]
+#[derive(Clone, Copy, Debug, PartialEq, Eq)]
 pub enum Field<'a> {
     /// An optional minus and one to ten digits.
     Number(&'a [u8], Place),
@@ -27,11 +27,10 @@ pub(crate) enum Part<'a> {
     Quoted(&'a [u8]),
 }
 
-/// What follows a field.
+/// What follows a field: the file ends, another field comes, or another row.
 #[derive(Clone, Copy)]
 pub(crate) enum After<'a> {
     FileEnd,
     Field(&'a [u8]),
     Row(&'a [u8]),
-    Neither,
 }

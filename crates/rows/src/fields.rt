@@ -1,7 +1,8 @@
 //! What is asked of a field: where it stands, what stands in it, and whether that can be read.
 ghost use Rattle.std.specs.Prelude.{◌≡◌};
+ghost use Rattle.std.specs.Option.{option_map};
 ghost use Rattle.rows.specs.Fields.{field_seen, place_of, text_of, readable};
-ghost use Rattle.rows.specs.Refusals.{refusal};
+ghost use Rattle.rows.specs.Refusals.{refusal, whole_row, file_bytes, bytes_seen};
 ghost use Rattle.rows.specs.declared.refusal_types.Layer.TheVariants.{Reader};
 
 use crate::field_types::{Field, Place};
@@ -10,27 +11,29 @@ use crate::refusal_types::{FieldFault, Layer, Refusal};
 /// How many bytes a file may have.
 pub const MOST_BYTES: usize = 65_536;
 
-/// Where a field stands.
-pub fn place(field: Field<'_>) -> Place
-    ensures { result ≡ place_of (field_seen field.entry) }
-{
-    match field {
-        Field::Number(_, place)
-        | Field::Word(_, place)
-        | Field::Letter(_, place)
-        | Field::Quoted(_, place) => place,
+impl<'a> Field<'a> {
+    /// Where the field stands.
+    pub fn place(self) -> Place
+        ensures { result ≡ place_of (field_seen self.entry) }
+    {
+        match self {
+            Field::Number(_, place)
+            | Field::Word(_, place)
+            | Field::Letter(_, place)
+            | Field::Quoted(_, place) => place,
+        }
     }
-}
 
-/// What stands in a field.
-pub fn text<'a>(field: Field<'a>) -> &'a [u8]
-    ensures { result.now ≡ text_of (field_seen field.entry) }
-{
-    match field {
-        Field::Number(text, _)
-        | Field::Word(text, _)
-        | Field::Letter(text, _)
-        | Field::Quoted(text, _) => text,
+    /// What stands in the field.
+    pub fn text(self) -> &'a [u8]
+        ensures { result.now ≡ text_of (field_seen self.entry) }
+    {
+        match self {
+            Field::Number(text, _)
+            | Field::Word(text, _)
+            | Field::Letter(text, _)
+            | Field::Quoted(text, _) => text,
+        }
     }
 }
 
@@ -38,9 +41,29 @@ pub fn text<'a>(field: Field<'a>) -> &'a [u8]
 pub fn readable<T>(read: Option<T>, place: Place) -> Result<T, FieldFault>
     ensures { result ≡ readable place read }
 {
-    match read {
-        Some(value) => Ok(value),
-        None => Err(FieldFault { place }),
+    read.ok_or(FieldFault { place })
+}
+
+impl Place {
+    /// The place of a row as a whole.
+    pub fn whole_row(row: u32) -> Place
+        ensures { result ≡ whole_row row }
+    {
+        Place { row, field: 0 }
+    }
+}
+
+impl Refusal {
+    /// The refusal of this number, which names this place.
+    pub fn at(number: u8, place: Place, layer: Layer) -> Refusal
+        ensures { result ≡ refusal number place.row place.field layer }
+    {
+        Refusal {
+            number,
+            row: place.row,
+            field: place.field,
+            layer,
+        }
     }
 }
 
@@ -48,10 +71,13 @@ pub fn readable<T>(read: Option<T>, place: Place) -> Result<T, FieldFault>
 pub fn whole_file() -> Refusal
     ensures { result ≡ refusal 7 0 0 Reader }
 {
-    Refusal {
-        number: 7,
-        row: 0,
-        field: 0,
-        layer: Layer::Reader,
-    }
+    Refusal::at(7, Place::whole_row(0), Layer::Reader)
+}
+
+/// The bytes of a file, or the refusal of one that is not there or is too long.
+pub fn file_bytes<'a>(file: Option<&'a [u8]>) -> Result<&'a [u8], Refusal>
+    ensures { bytes_seen result ≡ file_bytes (option_map (λ x. x.now) file.entry) }
+{
+    let short = file.filter(|bytes| bytes.len() <= MOST_BYTES);
+    short.ok_or(whole_file())
 }

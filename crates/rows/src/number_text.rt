@@ -7,7 +7,7 @@ const MOST_DIGITS: usize = 10;
 fn is_digit(byte: u8) -> bool
     ensures { result ≡ is_digit byte }
 {
-    b'0' <= byte && byte <= b'9'
+    byte.is_ascii_digit()
 }
 
 fn right_length(text: &[u8]) -> bool
@@ -16,6 +16,7 @@ fn right_length(text: &[u8]) -> bool
     1 <= text.len() && text.len() <= MOST_DIGITS
 }
 
+// Read by hand: the library's parse takes a plus and any number of digits, and is asked of a `str`.
 fn unsigned_number(text: &[u8]) -> Option<u64>
     ensures value { result ≡ unsigned text.now }
     ensures bound { IfSome result (λ n. n < 10 ^ 10) }
@@ -33,6 +34,7 @@ fn unsigned_number(text: &[u8]) -> Option<u64>
     Some(value)
 }
 
+// By `as`, here and below: the library has no `i64` from a `u64` that cannot fail.
 fn negated(value: u64) -> i64
     requires { value < 10 ^ 10 }
     ensures { result ≡ neg_ℤ (pos value) }

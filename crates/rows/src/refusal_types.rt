@@ -2,7 +2,7 @@
 use crate::field_types::Place;
 
 /// The part that refuses a file.
-#[derive(Clone, Copy)]
+#[derive(Clone, Copy, Debug, PartialEq, Eq)]
 pub enum Layer {
     Reader,
     RuleSet,
@@ -11,7 +11,8 @@ pub enum Layer {
 
 /// Why a file is refused: the number, the row and the field that it names, and the layer that refuses.
 /// Field 0 is a whole row, and row 0 a whole file.
-#[derive(Clone, Copy)]
+// The number is no enum: the formats print it, and the enums of the cases are the faults of the two files.
+#[derive(Clone, Copy, Debug, PartialEq, Eq)]
 pub struct Refusal {
     pub number: u8,
     pub row: u32,
@@ -20,7 +21,7 @@ pub struct Refusal {
 }
 
 /// A field that cannot be read as what it must be.
-#[derive(Clone, Copy)]
+#[derive(Clone, Copy, Debug, PartialEq, Eq)]
 pub struct FieldFault {
     pub place: Place,
 }

@@ -3,6 +3,7 @@
 
 ghost use Rattle.std.specs.Prelude.{◌≡◌, ◌+◌, length, IfOk};
 ghost use Rattle.rules.specs.Sets.{open_rules, closed_rules};
+ghost use Rattle.rule_user.specs.declared.Failed.TheVariants.{Refused, Output};
 
 #[cfg(test)]
 mod tests;
@@ -16,11 +17,21 @@ use std::io;
 /// Why the program ends with status 1: a part was refused, or the line was not written.
 #[derive(Debug, Drop)]
 enum Failed {
-    Refused,
+    Refused(RuleFault),
     Output(io::Error),
 }
 
+impl From<RuleFault> for Failed {
+    ghost from_gives = { λ e f. f ≡ Refused e };
+
+    fn from(fault: RuleFault) -> Failed {
+        Failed::Refused(fault)
+    }
+}
+
 impl From<io::Error> for Failed {
+    ghost from_gives = { λ e f. f ≡ Output e };
+
     fn from(error: io::Error) -> Failed {
         Failed::Output(error)
     }
@@ -91,9 +102,7 @@ fn looped_line() -> Result<ClosedSet<Lengths>, RuleFault>
 }
 
 fn main(rt: HostRuntime) -> Result<(), Failed> {
-    let Ok(set) = looped_line() else {
-        return Err(Failed::Refused);
-    };
+    let set = looped_line()?;
     let rules = set.rule_count();
     let heads = set.head_count();
     println!(rt; "{rules} rules, {heads} heads")?;

@@ -1,64 +1,41 @@
--- The rules of a table one by one: their heads are counted and numbered, and their kinds are looked through.
-use Rattle.std.proofs.Common.{◌≡◌, ℕ, suc, ◌+◌, ◌-◌, ◌<◌, ◌≤◌, Bool, true, false, eqb, ltb, List, [], ◌∷◌, length, get_or, take, drop, Some, sym, ap, ◌∙◌, arith}
-use Rattle.std.proofs.lemmas.List.{at_drop_more, at_drop_all, get_or-map, get_or-take, length-take-le, get_or_default}
+-- The records of a table one by one: their heads are counted and numbered, and their kinds are looked through.
+use Rattle.std.proofs.Common.{◌≡◌, ℕ, suc, ◌+◌, ◌-◌, ◌<◌, ◌≤◌, Bool, true, false, ltb, List, [], ◌∷◌, map, length, get_or, drop, Some, sym, ap, ◌∙◌, arith}
+use Rattle.std.proofs.lemmas.List.{at_drop_more, at_drop_all, get_or-map, get_or_default, length-map}
 use Rattle.std.proofs.lemmas.List.FromFn.{get_or-map-range_with_len}
 use Rattle.std.proofs.lemmas.Bool.{lt-ltb, le-ltb}
-use Rattle.rules.specs.declared.rule_types.AllRecord.{AllRecord}
+use Rattle.lists.specs.Held.{held}
 use Rattle.rules.specs.declared.rule_types.RuleRecord.{RuleRecord}
-use Rattle.rules.specs.declared.table_type.Table.{Table}
-use Rattle.rules.specs.Rules.{AllHead, Rule, all_seen, rule_seen, any, within, Within}
+use Rattle.rules.specs.Rules.{Rule, rule_seen, any}
 use Rattle.rules.specs.Writing.{no_parts}
-use Rattle.rules.specs.Tables.{finished}
+use Rattle.rules.proofs.Records.{singles-seen}
 use Rattle.rules.specs.Closed.{heads_of, head_from, place_seen, names, watched_kinds}
-use Rattle.rules.proofs.Anys.{all-at}
-use Rattle.rules.proofs.Records.{singles-count}
-use Rattle.rules.proofs.Tables.{within_so, finished-count}
 
--- the all heads of a record one by one
-pub all-at-seen : (r : RuleRecord) (i : ℕ) (d : AllRecord) → Within r → i < r.all_count → get_or (rule_seen r).alls i (all_seen d) ≡ all_seen (get_or r.alls i d)
-all-at-seen r i d w h =
-    get_or-map all_seen (take r.all_count r.alls) i d (all_seen d) (omega (arith, length-take-le r.all_count r.alls (omega (arith, w.alls, w.long_alls))))
-    ∙ ap all_seen (get_or-take r.all_count r.alls i d h)
+pub heads-seen : (r : RuleRecord) → heads_of (rule_seen r) ≡ length (held r.singles)
+heads-seen r = ap length (singles-seen r)
 
-module _ (t : Table) (i : ℕ) (d : RuleRecord) (h : i < t.len) where
-  pub inside : i < length (finished t)
-  inside = omega (arith, finished-count t)
+-- a function of the rules that are left, one record on, and at the end
+pub rule-more : {Y : Type 0} (F : List Rule → Y) (rs : List RuleRecord) (i : ℕ) (d : RuleRecord) → i < length rs → F (map rule_seen (drop i rs)) ≡ F (rule_seen (get_or rs i d) ∷ map rule_seen (drop (i + 1) rs))
+rule-more F rs i d h = at_drop_more (λ x. F (map rule_seen x)) rs i d h
 
-  pub rule-at : get_or (finished t) i (rule_seen d) ≡ rule_seen (get_or t.rules i d)
-  rule-at =
-      get_or-map rule_seen (take t.len t.rules) i d (rule_seen d) (omega (arith, length-take-le t.len t.rules (omega (arith, t.wide, t.few))))
-      ∙ ap rule_seen (get_or-take t.len t.rules i d h)
+pub rules-end : {Y : Type 0} (F : List Rule → Y) (rs : List RuleRecord) (i : ℕ) → length rs ≤ i → F (map rule_seen (drop i rs)) ≡ F []
+rules-end F rs i h = at_drop_all (λ x. F (map rule_seen x)) rs i h
 
-  pub rule-within : Within (get_or t.rules i d)
-  rule-within = within_so (get_or t.rules i d) (all-at within t.rules i d (omega (arith, t.wide, t.few)) t.sound)
-
-  pub rule-heads : heads_of (rule_seen (get_or t.rules i d)) ≡ (get_or t.rules i d).single_count
-  rule-heads = singles-count (get_or t.rules i d) rule-within
-
-  -- a function of the rules that are left, one rule on
-  pub rule-more : {Y : Type 0} (F : List Rule → Y) → F (drop i (finished t)) ≡ F (rule_seen (get_or t.rules i d) ∷ drop (i + 1) (finished t))
-  rule-more F = at_drop_more F (finished t) i (rule_seen d) inside ∙ ap (λ (x : Rule). F (x ∷ drop (i + 1) (finished t))) rule-at
+module _ (rs : List RuleRecord) (i : ℕ) (d : RuleRecord) (h : i < length rs) where
+  pub rule-at : get_or (map rule_seen rs) i no_parts ≡ rule_seen (get_or rs i d)
+  rule-at = get_or_default (map rule_seen rs) i no_parts (rule_seen d) (omega (arith, length-map rs rule_seen)) ∙ get_or-map rule_seen rs i d (rule_seen d) h
 
   -- the head that is looked for stands in this rule, or behind it
-  pub head-here : (left : ℕ) → left < (get_or t.rules i d).single_count → place_seen (finished t) (Some (record { rule = i; place = left })) ≡ head_from (suc i) (drop i (finished t)) left
+  pub head-here : (left : ℕ) → left < length (held (get_or rs i d).singles) → place_seen (map rule_seen rs) (Some (record { rule = i; place = left })) ≡ head_from (suc i) (map rule_seen (drop i rs)) left
   head-here left l =
-      let found : ltb left (heads_of (rule_seen (get_or t.rules i d))) ≡ true = lt-ltb left (heads_of (rule_seen (get_or t.rules i d))) (omega (arith, rule-heads)) in
-      let this : get_or (finished t) i no_parts ≡ rule_seen (get_or t.rules i d) = get_or_default (finished t) i no_parts (rule_seen d) inside ∙ rule-at in
-      ap (λ (x : Rule). Some (record { rule = x; number = suc i; place = left })) this ∙ sym (rule-more (λ rs. head_from (suc i) rs left) ∙ rw found)
+      let found : ltb left (heads_of (rule_seen (get_or rs i d))) ≡ true = lt-ltb left (heads_of (rule_seen (get_or rs i d))) (omega (arith, heads-seen (get_or rs i d))) in
+      ap (λ (x : Rule). Some (record { rule = x; number = suc i; place = left })) rule-at ∙ sym (rule-more (λ x. head_from (suc i) x left) rs i d h ∙ rw found)
 
-  pub head-behind : (left : ℕ) → (get_or t.rules i d).single_count ≤ left → head_from (suc i) (drop i (finished t)) left ≡ head_from (suc (i + 1)) (drop (i + 1) (finished t)) (left - (get_or t.rules i d).single_count)
+  pub head-behind : (left : ℕ) → length (held (get_or rs i d).singles) ≤ left → head_from (suc i) (map rule_seen (drop i rs)) left ≡ head_from (suc (i + 1)) (map rule_seen (drop (i + 1) rs)) (left - length (held (get_or rs i d).singles))
   head-behind left l =
-      let past : ltb left (heads_of (rule_seen (get_or t.rules i d))) ≡ false = le-ltb left (heads_of (rule_seen (get_or t.rules i d))) (omega (arith, rule-heads)) in
+      let past : ltb left (heads_of (rule_seen (get_or rs i d))) ≡ false = le-ltb left (heads_of (rule_seen (get_or rs i d))) (omega (arith, heads-seen (get_or rs i d))) in
       let next : suc (suc i) ≡ suc (i + 1) = omega arith in
-      rule-more (λ rs. head_from (suc i) rs left) ∙ rw (past, rule-heads, next)
-
-pub rules-end : {Y : Type 0} (t : Table) (i : ℕ) (F : List Rule → Y) → t.len ≤ i → F (drop i (finished t)) ≡ F []
-rules-end t i F h = at_drop_all F (finished t) i (omega (arith, finished-count t))
+      rule-more (λ x. head_from (suc i) x left) rs i d h ∙ rw (past, heads-seen (get_or rs i d), next)
 
 -- the table of watched kinds
 pub watched-at : (w : List Bool) (rs : List Rule) (k : ℕ) → w ≡ watched_kinds rs → k < 64 → get_or w k false ≡ any (names k) rs
 watched-at w rs k e h = ap (λ (x : List Bool). get_or x k false) e ∙ get_or-map-range_with_len (λ n. any (names n) rs) 0 64 k k false h (omega arith)
-
--- what a test of kinds says of an all head, by its record
-pub all-test : (r : RuleRecord) (kind i : ℕ) (d : AllRecord) (b : Bool) → Within r → i < r.all_count → eqb (get_or r.alls i d).pattern.kind kind ≡ b → eqb (get_or (rule_seen r).alls i (all_seen d)).pattern.kind kind ≡ b
-all-test r kind i d b w h e = ap (λ (a : AllHead). eqb a.pattern.kind kind) (all-at-seen r i d w h) ∙ e

@@ -1,82 +1,17 @@
--- What the counts of a record say of the rule that it means.
-use Rattle.std.proofs.Common.{◌≡◌, ℕ, zero, suc, ◌-◌, ◌<◌, ◌≤◌, Bool, true, eqb, leb, ◌⊎◌, List, [], ◌∷◌, ◌++◌, map, length, get_or, take, drop, sym, refl, ap, ◌∙◌, inl, inr, arith}
-use Rattle.std.proofs.lemmas.List.{take-take, take-append-drop, length-map, length-drop, length-take-le}
-use Rattle.std.proofs.lemmas.Bool.{and_parts, leb-true, eqb-true}
-use Rattle.rules.specs.declared.rule_types.Pattern.{Pattern}
+-- How many parts of each sort a record has.
+use Rattle.std.proofs.Common.{◌≡◌, length, ap, ◌∙◌}
+use Rattle.std.proofs.lemmas.List.{take-append-drop, length-map}
+use Rattle.lists.specs.Held.{held}
+use Rattle.lists.proofs.Held.{held-count}
 use Rattle.rules.specs.declared.rule_types.RuleRecord.{RuleRecord}
-use Rattle.rules.specs.declared.rule_types.AllRecord.{AllRecord}
-use Rattle.rules.specs.declared.rule_types.HeadSort.{HeadSort}
-use Rattle.rules.specs.declared.rule_types.HeadSort.TheVariants.{Keep, Drop, KeepAll, DropAll}
-use Rattle.rules.specs.Writing.{place_of_last, stage, last_only, full}
-use Rattle.rules.specs.Rules.{all_seen, rule_seen, singles, within_all, any, is_letter, bound, Within}
-use Rattle.rules.proofs.Anys.{all-at}
+use Rattle.rules.specs.Rules.{all_seen, rule_seen, singles}
 
 -- the single heads of a record, in their order
-pub singles-seen : (r : RuleRecord) → Within r → singles (rule_seen r) ≡ take r.single_count r.singles
-singles-seen r w =
-    ap (λ (x : List Pattern). x ++ drop r.keep_count (take r.single_count r.singles)) (sym (take-take r.keep_count r.single_count r.singles w.keeps))
-    ∙ take-append-drop r.keep_count (take r.single_count r.singles)
+pub singles-seen : (r : RuleRecord) → singles (rule_seen r) ≡ held r.singles
+singles-seen r = take-append-drop r.keep_count (held r.singles)
 
-pub bound-seen : (r : RuleRecord) (v : ℕ) (b : Bool) → Within r → b ≡ any (λ p. any (is_letter v) p.args) (take (r.single_count - 0) r.singles) → b ≡ bound (rule_seen r) v
-bound-seen r v b w e =
-    let same : r.single_count - 0 ≡ r.single_count = omega arith in
-    e
-    ∙ ap (λ (n : ℕ). any (λ p. any (is_letter v) p.args) (take n r.singles)) same
-    ∙ ap (any (λ p. any (is_letter v) p.args)) (sym (singles-seen r w))
+pub singles-count : (r : RuleRecord) → length (singles (rule_seen r)) ≡ r.singles.count
+singles-count r = ap length (singles-seen r) ∙ held-count r.singles
 
--- how many all heads a record has
-pub alls-count : (r : RuleRecord) → Within r → length (rule_seen r).alls ≡ r.all_count
-alls-count r w = length-map (take r.all_count r.alls) all_seen ∙ length-take-le r.all_count r.alls (omega (arith, w.alls, w.long_alls))
-
-pub singles-count : (r : RuleRecord) → Within r → length (singles (rule_seen r)) ≡ r.single_count
-singles-count r w = ap length (singles-seen r w) ∙ length-take-le r.single_count r.singles (omega (arith, w.singles, w.long_singles))
-
-keeps-count : (r : RuleRecord) → Within r → length (rule_seen r).keeps ≡ r.keep_count
-keeps-count r w = length-take-le r.keep_count r.singles (omega (arith, w.keeps, w.singles, w.long_singles))
-
-pub drops-count : (r : RuleRecord) → Within r → length (rule_seen r).drops ≡ r.single_count - r.keep_count
-drops-count r w =
-    length-drop r.keep_count (take r.single_count r.singles)
-    ∙ ap (λ (n : ℕ). n - r.keep_count) (length-take-le r.single_count r.singles (omega (arith, w.singles, w.long_singles)))
-
-pub whens-count : (r : RuleRecord) → Within r → length (rule_seen r).whens ≡ r.when_count
-whens-count r w = length-take-le r.when_count r.whens (omega (arith, w.whens, w.long_whens))
-
-pub gives-count : (r : RuleRecord) → Within r → length (rule_seen r).gives ≡ r.give_count
-gives-count r w = length-take-le r.give_count r.gives (omega (arith, w.gives, w.long_gives))
-
-pub givealls-count : (r : RuleRecord) → Within r → length (rule_seen r).givealls ≡ r.giveall_count
-givealls-count r w = length-take-le r.giveall_count r.givealls (omega (arith, w.givealls, w.long_givealls))
-
--- the place of the last part, by the record's counts
-pub stage_seen : (r : RuleRecord) → Within r → stage (rule_seen r) ≡ place_of_last r.keep_count (r.single_count - r.keep_count) r.all_count r.when_count r.give_count r.giveall_count
-stage_seen r w = rw (keeps-count r w, drops-count r w, alls-count r w, whens-count r w, gives-count r w, givealls-count r w)
-
--- a part that is one too many, by the record's counts
-module _ (r : RuleRecord) (w : Within r) (p : HeadSort) where
-  pub full-singles : (p ≡ Keep) ⊎ (p ≡ Drop) → leb 4 r.single_count ≡ full p (rule_seen r)
-  full-singles (inl e) = rw (e, singles-count r w)
-  full-singles (inr e) = rw (e, singles-count r w)
-
-  pub full-alls : (p ≡ KeepAll) ⊎ (p ≡ DropAll) → leb 2 r.all_count ≡ full p (rule_seen r)
-  full-alls (inl e) = rw (e, alls-count r w)
-  full-alls (inr e) = rw (e, alls-count r w)
-
--- the last all head -----------------------------------------------------------------------------------------------
-
-last-seen : (ls : List AllRecord) (n : ℕ) (d : AllRecord) → n < length ls → last_only (map all_seen (take (suc n) ls)) ≡ (all_seen (get_or ls n d)).only
-last-seen [] n d h = absurd (omega arith)
-last-seen (a ∷ ls) zero d h = refl
-last-seen (a ∷ []) (suc n) d h = absurd (omega arith)
-last-seen (a ∷ (b ∷ ls)) (suc n) d h = last-seen (b ∷ ls) n d (omega arith)
-
-pub only-within : (a : AllRecord) → within_all a ≡ true → (a.only_count ≤ 2) × (length a.only ≡ 2)
-only-within a t = let p = and_parts (leb a.only_count 2) (eqb (length a.only) 2) t in (leb-true a.only_count 2 p.0, eqb-true (length a.only) 2 p.1)
-
-pub last-only-count : (r : RuleRecord) (d : AllRecord) → Within r → 0 < r.all_count → (get_or r.alls (r.all_count - 1) d).only_count ≡ length (last_only (rule_seen r).alls)
-last-only-count r d w some =
-    let at = r.all_count - 1 in
-    let here : at < length r.alls = omega (arith, w.alls, w.long_alls) in
-    let last : r.all_count ≡ suc at = omega arith in
-    let o = only-within (get_or r.alls at d) (all-at within_all r.alls at d here w.onlys) in
-    sym (ap (λ (n : ℕ). length (last_only (map all_seen (take n r.alls)))) last ∙ ap length (last-seen r.alls at d here) ∙ length-take-le (get_or r.alls at d).only_count (get_or r.alls at d).only (omega (arith, o.0, o.1)))
+pub alls-count : (r : RuleRecord) → length (rule_seen r).alls ≡ r.alls.count
+alls-count r = length-map (held r.alls) all_seen ∙ held-count r.alls

@@ -25,7 +25,9 @@ use Rattle.rules.specs.Rules.{AllHead, Rule, singles, any, is_letter, bound}
 use Rattle.rules.specs.Writing.{◌>>=◌, each, may_add, may_add_body, kind_verdict, over_verdict, single_verdict, all_verdict, operand_verdict, term_verdict, pattern_verdict, comparison_verdict, template_verdict, giveall_verdict, with_keep, with_drop, with_all, to_last, with_only, with_when, with_give, with_giveall, add_head, add_body, after}
 use Rattle.rules.specs.Tables.{may_end}
 use Rattle.rules.specs.Closed.{accepted, all_head_verdict, parts_verdict, rule_verdict, stand, names}
-use Rattle.rules.proofs.Writes.{no_ok}
+
+pub no_ok : {X : Type 0} (e : RuleFault) (x : X) → ◌≡◌ {A = Result X RuleFault} (Err e) (Ok x) → ⊥
+no_ok e x h = let z : ◌≡◌ {A = ℕ} 0 1 = cc in omega arith
 
 -- verdicts --------------------------------------------------------------------------------------------------------------
 

@@ -7,7 +7,7 @@ use Rattle.facts.specs.declared.fact_types.Fact.{Fact}
 use Rattle.rules.specs.declared.rule_types.RuleFault.{RuleFault}
 use Rattle.rules.specs.declared.rule_types.HeadPlace.{HeadPlace}
 use Rattle.rules.specs.declared.rule_types.RuleRecord.{RuleRecord}
-use Rattle.rules.specs.Rules.{AllHead, Rule, singles, any, rule_seen, Within}
+use Rattle.rules.specs.Rules.{AllHead, Rule, singles, any, rule_seen}
 use Rattle.rules.specs.Writing.{◌>>=◌, each, pattern_verdict, single_verdict, all_verdict, comparison_verdict, term_verdict, template_verdict, giveall_verdict, no_parts}
 use Rattle.rules.specs.Tables.{may_end}
 
@@ -93,12 +93,7 @@ watched_kinds rs = map (λ k. any (names k) rs) (range_with_len 0 64)
 
 -- records -----------------------------------------------------------------------------------------------------------------
 
--- a record means a rule, and its counts are within its arrays
-pub record IsRecordOf (r : Rule) (record' : RuleRecord) : Type 0 where
-  pub means : rule_seen record' ≡ r
-  pub within : Within record'
-
 -- the record of the rule at an index, or none where the list ends before it
 abbrev pub IsRuleAt : List Rule → ℕ → Option (Bor RuleRecord) → Type 0
 IsRuleAt rs i None = length rs ≤ i
-IsRuleAt rs i (Some r) = (i < length rs) × IsRecordOf (slice_index_or rs i no_parts) r.now
+IsRuleAt rs i (Some r) = (i < length rs) × (rule_seen r.now ≡ slice_index_or rs i no_parts)

@@ -1,5 +1,6 @@
 -- A rule as lists: what the record of a rule means.
-use Rattle.std.specs.Prelude.{◌≡◌, ℕ, ◌≤◌, Bool, true, false, ◌&&◌, ◌||◌, List, [], ◌∷◌, ◌++◌, map, length, take, drop, ◌==◌, nat_le}
+use Rattle.std.specs.Prelude.{ℕ, Bool, true, false, ◌&&◌, ◌||◌, List, [], ◌∷◌, ◌++◌, map, take, drop, ◌==◌}
+use Rattle.lists.specs.Held.{held}
 use Rattle.rules.specs.declared.rule_types.Argument.{Argument}
 use Rattle.rules.specs.declared.rule_types.Argument.TheVariants.{Letter, Constant, Any}
 use Rattle.rules.specs.declared.rule_types.Comparison.{Comparison}
@@ -23,18 +24,18 @@ pub record Rule : Type 0 where
   pub givealls : List GiveAll
 
 abbrev pub all_seen : AllRecord → AllHead
-all_seen a = record { drops = a.drops; pattern = a.pattern; only = take a.only_count a.only }
+all_seen a = record { drops = a.drops; pattern = a.pattern; only = held a.only }
 
--- of each array, as much as is used
+-- the lists of a record; of its single heads the first are the `keep` heads
 abbrev pub rule_seen : RuleRecord → Rule
 rule_seen r =
     record {
-      keeps = take r.keep_count r.singles;
-      drops = drop r.keep_count (take r.single_count r.singles);
-      alls = map all_seen (take r.all_count r.alls);
-      whens = take r.when_count r.whens;
-      gives = take r.give_count r.gives;
-      givealls = take r.giveall_count r.givealls;
+      keeps = take r.keep_count (held r.singles);
+      drops = drop r.keep_count (held r.singles);
+      alls = map all_seen (held r.alls);
+      whens = held r.whens;
+      gives = held r.gives;
+      givealls = held r.givealls;
     }
 
 -- the single heads in their order
@@ -58,33 +59,3 @@ is_letter v Any = false
 
 abbrev pub bound : Rule → ℕ → Bool
 bound r v = any (λ p. any (is_letter v) p.args) (singles r)
-
--- how much of each array may be used ---------------------------------------------------------------------------
-
-abbrev pub long : RuleRecord → Bool
-long r = length r.singles == 4 && length r.alls == 2 && length r.whens == 4 && length r.gives == 4 && length r.givealls == 2
-
-abbrev pub counted : RuleRecord → Bool
-counted r = nat_le r.keep_count r.single_count && nat_le r.single_count 4 && nat_le r.all_count 2 && nat_le r.when_count 4 && nat_le r.give_count 4 && nat_le r.giveall_count 2
-
-abbrev pub within_all : AllRecord → Bool
-within_all a = nat_le a.only_count 2 && length a.only == 2
-
--- as a test
-abbrev pub within : RuleRecord → Bool
-within r = long r && counted r && all within_all r.alls
-
--- and by its parts
-pub record Within (r : RuleRecord) : Type 0 where
-  pub long_singles : length r.singles ≡ 4
-  pub long_alls : length r.alls ≡ 2
-  pub long_whens : length r.whens ≡ 4
-  pub long_gives : length r.gives ≡ 4
-  pub long_givealls : length r.givealls ≡ 2
-  pub keeps : r.keep_count ≤ r.single_count
-  pub singles : r.single_count ≤ 4
-  pub alls : r.all_count ≤ 2
-  pub whens : r.when_count ≤ 4
-  pub gives : r.give_count ≤ 4
-  pub givealls : r.giveall_count ≤ 2
-  pub onlys : all within_all r.alls ≡ true

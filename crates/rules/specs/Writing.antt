@@ -21,7 +21,7 @@ use Rattle.rules.specs.declared.rule_types.HeadPart.TheVariants as head_part
 use Rattle.rules.specs.declared.rule_types.BodyPart.{BodyPart}
 use Rattle.rules.specs.declared.rule_types.BodyPart.TheVariants as body_part
 use Rattle.rules.specs.declared.rule_types.RuleRecord.{RuleRecord}
-use Rattle.rules.specs.Rules.{AllHead, Rule, rule_seen, singles, bound, Within}
+use Rattle.rules.specs.Rules.{AllHead, Rule, rule_seen, singles, bound}
 
 -- the number of each fault
 abbrev pub fault_number : RuleFault → ℕ
@@ -159,8 +159,11 @@ with_keep p r = record { keeps = r.keeps ++ (p ∷ []); drops = r.drops; alls = 
 abbrev pub with_drop : Pattern → Rule → Rule
 with_drop p r = record { keeps = r.keeps; drops = r.drops ++ (p ∷ []); alls = r.alls; whens = r.whens; gives = r.gives; givealls = r.givealls }
 
+abbrev pub new_all : Bool → Pattern → AllHead
+new_all drops p = record { drops = drops; pattern = p; only = [] }
+
 abbrev pub with_all : Bool → Pattern → Rule → Rule
-with_all drops p r = record { keeps = r.keeps; drops = r.drops; alls = r.alls ++ (record { drops = drops; pattern = p; only = [] } ∷ []); whens = r.whens; gives = r.gives; givealls = r.givealls }
+with_all drops p r = record { keeps = r.keeps; drops = r.drops; alls = r.alls ++ (new_all drops p ∷ []); whens = r.whens; gives = r.gives; givealls = r.givealls }
 
 -- an `only` belongs to the last all head
 abbrev pub to_last : Comparison → List AllHead → List AllHead
@@ -218,6 +221,44 @@ abbrev pub add_body : (ℤ → Bool) → BodyPart → Rule → Result Rule RuleF
 add_body valid (body_part.Give t) r = add_give valid t r
 add_body valid (body_part.GiveAll g) r = add_giveall valid g r
 
+-- of a part: its sort, how its fields are judged, and the rule with it -------------------------------------------------
+
+abbrev pub head_sort : HeadPart → HeadSort
+head_sort (head_part.Keep p) = Keep
+head_sort (head_part.Drop p) = Drop
+head_sort (head_part.KeepAll p) = KeepAll
+head_sort (head_part.DropAll p) = DropAll
+head_sort (head_part.Only c) = Only
+head_sort (head_part.When c) = When
+
+abbrev pub body_sort : BodyPart → BodySort
+body_sort (body_part.Give t) = body.Give
+body_sort (body_part.GiveAll g) = body.GiveAll
+
+abbrev pub head_verdict : (ℤ → Bool) → Rule → HeadPart → Result (Unit {0}) RuleFault
+head_verdict valid r (head_part.Keep p) = pattern_verdict (single_verdict valid) p
+head_verdict valid r (head_part.Drop p) = pattern_verdict (single_verdict valid) p
+head_verdict valid r (head_part.KeepAll p) = pattern_verdict (all_verdict valid r) p
+head_verdict valid r (head_part.DropAll p) = pattern_verdict (all_verdict valid r) p
+head_verdict valid r (head_part.Only c) = comparison_verdict (term_verdict valid r true) c
+head_verdict valid r (head_part.When c) = comparison_verdict (term_verdict valid r false) c
+
+abbrev pub body_verdict : (ℤ → Bool) → Rule → BodyPart → Result (Unit {0}) RuleFault
+body_verdict valid r (body_part.Give t) = template_verdict (term_verdict valid r false) t
+body_verdict valid r (body_part.GiveAll g) = giveall_verdict valid r g
+
+abbrev pub with_head : HeadPart → Rule → Rule
+with_head (head_part.Keep p) r = with_keep p r
+with_head (head_part.Drop p) r = with_drop p r
+with_head (head_part.KeepAll p) r = with_all false p r
+with_head (head_part.DropAll p) r = with_all true p r
+with_head (head_part.Only c) r = with_only c r
+with_head (head_part.When c) r = with_when c r
+
+abbrev pub with_body : BodyPart → Rule → Rule
+with_body (body_part.Give t) r = with_give t r
+with_body (body_part.GiveAll g) r = with_giveall g r
+
 -- what was written ---------------------------------------------------------------------------------------------------
 
 abbrev pub done : {X : Type 0} → Result X RuleFault → Result (Unit {0}) RuleFault
@@ -229,9 +270,8 @@ abbrev pub after : Result Rule RuleFault → Rule → Rule
 after (Ok new) old = new
 after (Err e) old = old
 
--- a part was written into a record: the answer, what the record then means, and that a refused part leaves it as found
+-- a part was written into a record, or turned down: the answer, what the record then means, and that a refused part leaves it as found
 pub record Wrote (o : Result Rule RuleFault) (old new : RuleRecord) (r : Result (Unit {0}) RuleFault) : Type 0 where
   pub answer : r ≡ done o
   pub meaning : rule_seen new ≡ after o (rule_seen old)
   pub as_found : (e : RuleFault) → r ≡ Err e → new ≡ old
-  pub within : Within new

@@ -31,7 +31,7 @@ impl<W: Words> ClosedSet<W> {
         ensures count { result ≡ length (closed_rules self.now) }
         ensures stands { stand every_word (closed_rules self.now) ≡ true }
     {
-        self.table.count()
+        self.table.rules().len()
     }
 
     /// How many single heads the rules of the set have.
@@ -54,7 +54,7 @@ impl<W: Words> ClosedSet<W> {
         ensures rule { IsRuleAt (closed_rules self.now) index result }
         ensures stands { stand every_word (closed_rules self.now) ≡ true }
     {
-        self.table.rule_at(index)
+        self.table.rules().get(index)
     }
 
     fn is_watched(&self, kind: u8) -> bool

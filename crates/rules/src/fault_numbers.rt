@@ -9,14 +9,6 @@ impl RuleFault {
     pub fn number(self) -> u8
         ensures { result ≡ fault_number self }
     {
-        match self {
-            RuleFault::Kind => 1,
-            RuleFault::Word => 2,
-            RuleFault::Letter => 3,
-            RuleFault::TooMany => 4,
-            RuleFault::NoDrop => 5,
-            RuleFault::NoAllHead => 6,
-            RuleFault::OutOfOrder => 9,
-        }
+        self as u8
     }
 }

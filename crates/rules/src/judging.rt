@@ -1,7 +1,7 @@
 //! How the fields of a part are judged: kinds, constants, letters, and which all head is meant.
 ghost use Rattle.std.specs.Prelude.{◌≡◌, pos, if◌then◌else◌, Ok, Err};
 ghost use Rattle.rules.specs.declared.rule_types.RuleFault.TheVariants.{Letter, Word};
-ghost use Rattle.rules.specs.Rules.{rule_seen, any, is_letter, bound, Within};
+ghost use Rattle.rules.specs.Rules.{rule_seen, any, is_letter, bound};
 ghost use Rattle.rules.specs.Writing.{kind_verdict, over_verdict, single_verdict, all_verdict, operand_verdict, term_verdict, each, pattern_verdict, comparison_verdict, template_verdict, giveall_verdict};
 
 use crate::rule_types::{
@@ -30,10 +30,9 @@ fn has_letter(args: &[Argument], letter: u8) -> bool
 }
 
 pub(crate) fn is_bound(rule: &RuleRecord, letter: u8) -> bool
-    requires { Within rule.now }
     ensures { result ≡ bound (rule_seen rule.now) letter }
 {
-    for pattern in &rule.singles[0..rule.single_count] {
+    for pattern in rule.singles.as_slice() {
         if has_letter(&pattern.args, letter) {
             return true;
         }
@@ -64,7 +63,6 @@ pub(crate) fn judge_single<W: Words>(argument: Argument) -> Result<(), RuleFault
 }
 
 fn judge_letter(rule: &RuleRecord, letter: u8) -> Result<(), RuleFault>
-    requires { Within rule.now }
     ensures { result ≡ (if bound (rule_seen rule.now) letter then Ok tt else Err Letter) }
 {
     if is_bound(rule, letter) {
@@ -85,7 +83,6 @@ fn judge_constant<W: Words>(word: i64) -> Result<(), RuleFault>
 }
 
 pub(crate) fn judge_all<W: Words>(rule: &RuleRecord, argument: Argument) -> Result<(), RuleFault>
-    requires { Within rule.now }
     ensures { result ≡ all_verdict W.Words.system.valid (rule_seen rule.now) argument }
 {
     match argument {
@@ -100,7 +97,6 @@ fn judge_operand<W: Words>(
     taken: bool,
     operand: Operand,
 ) -> Result<(), RuleFault>
-    requires { Within rule.now }
     ensures { result ≡ operand_verdict W.Words.system.valid (rule_seen rule.now) taken operand }
 {
     match operand {
@@ -121,7 +117,6 @@ pub(crate) fn judge_term<W: Words>(
     taken: bool,
     term: Term,
 ) -> Result<(), RuleFault>
-    requires { Within rule.now }
     ensures { result ≡ term_verdict W.Words.system.valid (rule_seen rule.now) taken term }
 {
     match term {
@@ -133,6 +128,8 @@ pub(crate) fn judge_term<W: Words>(
     }
 }
 
+// The three loops below as one over a closure are no plainer: its clause is a relation on what the closure may answer, which each
+// of its callers has to turn back into `each`.
 fn judge_singles<W: Words>(args: &[Argument]) -> Result<(), RuleFault>
     ensures { result ≡ each (single_verdict W.Words.system.valid) args.now }
 {
@@ -143,7 +140,6 @@ fn judge_singles<W: Words>(args: &[Argument]) -> Result<(), RuleFault>
 }
 
 fn judge_alls<W: Words>(rule: &RuleRecord, args: &[Argument]) -> Result<(), RuleFault>
-    requires { Within rule.now }
     ensures { result ≡ each (all_verdict W.Words.system.valid (rule_seen rule.now)) args.now }
 {
     for argument in args {
@@ -153,7 +149,6 @@ fn judge_alls<W: Words>(rule: &RuleRecord, args: &[Argument]) -> Result<(), Rule
 }
 
 fn judge_terms<W: Words>(rule: &RuleRecord, taken: bool, terms: &[Term]) -> Result<(), RuleFault>
-    requires { Within rule.now }
     ensures { result ≡ each (term_verdict W.Words.system.valid (rule_seen rule.now) taken) terms.now }
 {
     for term in terms {
@@ -173,7 +168,6 @@ pub(crate) fn judge_all_head<W: Words>(
     rule: &RuleRecord,
     pattern: &Pattern,
 ) -> Result<(), RuleFault>
-    requires { Within rule.now }
     ensures { result ≡ pattern_verdict (all_verdict W.Words.system.valid (rule_seen rule.now)) pattern.now }
 {
     judge_kind(i64::from(pattern.kind))?;
@@ -185,7 +179,6 @@ pub(crate) fn judge_comparison<W: Words>(
     taken: bool,
     comparison: &Comparison,
 ) -> Result<(), RuleFault>
-    requires { Within rule.now }
     ensures { result ≡ comparison_verdict (term_verdict W.Words.system.valid (rule_seen rule.now) taken) comparison.now }
 {
     judge_term::<W>(rule, taken, comparison.left)?;
@@ -197,7 +190,6 @@ pub(crate) fn judge_template<W: Words>(
     taken: bool,
     template: &Template,
 ) -> Result<(), RuleFault>
-    requires { Within rule.now }
     ensures { result ≡ template_verdict (term_verdict W.Words.system.valid (rule_seen rule.now) taken) template.now }
 {
     judge_kind(i64::from(template.kind))?;
@@ -205,13 +197,12 @@ pub(crate) fn judge_template<W: Words>(
 }
 
 pub(crate) fn judge_over(rule: &RuleRecord, number: i64) -> Result<u8, RuleFault>
-    requires { Within rule.now }
     ensures { result ≡ over_verdict (rule_seen rule.now) number }
 {
     if number < 1 {
         return Err(RuleFault::NoAllHead);
     }
-    if number <= rule.all_count as i64 {
+    if number <= rule.alls.len() as i64 {
         Ok(number as u8)
     } else {
         Err(RuleFault::NoAllHead)
@@ -219,7 +210,6 @@ pub(crate) fn judge_over(rule: &RuleRecord, number: i64) -> Result<u8, RuleFault
 }
 
 pub(crate) fn judge_giveall<W: Words>(rule: &RuleRecord, giveall: &GiveAll) -> Result<(), RuleFault>
-    requires { Within rule.now }
     ensures { result ≡ giveall_verdict W.Words.system.valid (rule_seen rule.now) giveall.now }
 {
     judge_over(rule, i64::from(giveall.over))?;

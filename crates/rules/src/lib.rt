@@ -6,7 +6,6 @@ mod closed_type;
 mod fault_numbers;
 mod judging;
 mod ordering;
-mod pushing;
 mod rule_types;
 mod set_types;
 mod stages;

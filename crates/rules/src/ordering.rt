@@ -1,25 +1,80 @@
 //! Which part may come next in a rule: the order of parts, and how many there may be of each.
-ghost use Rattle.std.specs.Prelude.{◌≡◌, ◌-◌, length};
-ghost use Rattle.rules.specs.Rules.{rule_seen, Within};
-ghost use Rattle.rules.specs.Writing.{place_of_last, stage, late, late_body, last_only, full, full_body, in_order, may_add, may_add_body};
+ghost use Rattle.std.specs.Prelude.{◌≡◌, ℕ, Bool, length};
+ghost use Rattle.rules.specs.Rules.{Rule, rule_seen};
+ghost use Rattle.rules.specs.Writing.{stage, late, late_body, last_only, full, full_body, in_order};
 
-use crate::rule_types::{
-    ALLS, BodySort, GIVEALLS, GIVES, HeadSort, ONLYS, RuleFault, RuleRecord, SINGLES, WHENS,
-};
+use crate::rule_types::{BodySort, HeadSort, ONLYS, RuleFault, RuleRecord};
+
+/// A sort of part: behind which parts it may not stand, and where a rule has as many of it as it may.
+pub(crate) trait PartSort: Copy {
+    ghost late: { Self → ℕ → Bool };
+
+    ghost full: { Self → Rule → Bool };
+
+    fn is_late(self, place: u8) -> bool
+        ensures { result ≡ late self place };
+
+    fn is_full(self, rule: &RuleRecord) -> bool
+        ensures { result ≡ full self (rule_seen rule.now) };
+}
+
+impl PartSort for HeadSort {
+    ghost late = { late };
+
+    ghost full = { full };
+
+    fn is_late(self, place: u8) -> bool {
+        match self {
+            HeadSort::Keep => place > 1,
+            HeadSort::Drop => place > 2,
+            HeadSort::KeepAll | HeadSort::DropAll => place > 3,
+            HeadSort::Only => place != 3,
+            HeadSort::When => place > 4,
+        }
+    }
+
+    fn is_full(self, rule: &RuleRecord) -> bool {
+        match self {
+            HeadSort::Keep | HeadSort::Drop => !rule.singles.has_room(),
+            HeadSort::KeepAll | HeadSort::DropAll => !rule.alls.has_room(),
+            HeadSort::Only => last_only_count(rule) >= ONLYS,
+            HeadSort::When => !rule.whens.has_room(),
+        }
+    }
+}
+
+impl PartSort for BodySort {
+    ghost late = { late_body };
+
+    ghost full = { full_body };
+
+    fn is_late(self, place: u8) -> bool {
+        match self {
+            BodySort::Give => place > 5,
+            BodySort::GiveAll => place > 6,
+        }
+    }
+
+    fn is_full(self, rule: &RuleRecord) -> bool {
+        match self {
+            BodySort::Give => !rule.gives.has_room(),
+            BodySort::GiveAll => !rule.givealls.has_room(),
+        }
+    }
+}
 
 fn place_of_last(rule: &RuleRecord) -> u8
-    requires { Within rule.now }
-    ensures { result ≡ place_of_last rule.now.keep_count (rule.now.single_count - rule.now.keep_count) rule.now.all_count rule.now.when_count rule.now.give_count rule.now.giveall_count }
+    ensures { result ≡ stage (rule_seen rule.now) }
 {
-    if rule.giveall_count > 0 {
+    if rule.givealls.len() > 0 {
         6
-    } else if rule.give_count > 0 {
+    } else if rule.gives.len() > 0 {
         5
-    } else if rule.when_count > 0 {
+    } else if rule.whens.len() > 0 {
         4
-    } else if rule.all_count > 0 {
+    } else if rule.alls.len() > 0 {
         3
-    } else if rule.single_count > rule.keep_count {
+    } else if rule.singles.len() > rule.keep_count {
         2
     } else if rule.keep_count > 0 {
         1
@@ -28,57 +83,13 @@ fn place_of_last(rule: &RuleRecord) -> u8
     }
 }
 
-fn is_late(part: HeadSort, place: u8) -> bool
-    ensures { result ≡ late part place }
-{
-    match part {
-        HeadSort::Keep => place > 1,
-        HeadSort::Drop => place > 2,
-        HeadSort::KeepAll | HeadSort::DropAll => place > 3,
-        HeadSort::Only => place != 3,
-        HeadSort::When => place > 4,
-    }
-}
-
-fn is_late_body(part: BodySort, place: u8) -> bool
-    ensures { result ≡ late_body part place }
-{
-    match part {
-        BodySort::Give => place > 5,
-        BodySort::GiveAll => place > 6,
-    }
-}
-
 // How many `only` comparisons the last all head has.
 fn last_only_count(rule: &RuleRecord) -> usize
-    requires { Within rule.now }
     ensures { result ≡ length (last_only (rule_seen rule.now).alls) }
 {
-    match rule.all_count {
-        0 => 0,
-        count => rule.alls[count - 1].only_count,
-    }
-}
-
-fn is_full(rule: &RuleRecord, part: HeadSort) -> bool
-    requires { Within rule.now }
-    ensures { result ≡ full part (rule_seen rule.now) }
-{
-    match part {
-        HeadSort::Keep | HeadSort::Drop => rule.single_count >= SINGLES,
-        HeadSort::KeepAll | HeadSort::DropAll => rule.all_count >= ALLS,
-        HeadSort::Only => last_only_count(rule) >= ONLYS,
-        HeadSort::When => rule.when_count >= WHENS,
-    }
-}
-
-fn is_full_body(rule: &RuleRecord, part: BodySort) -> bool
-    requires { Within rule.now }
-    ensures { result ≡ full_body part (rule_seen rule.now) }
-{
-    match part {
-        BodySort::Give => rule.give_count >= GIVES,
-        BodySort::GiveAll => rule.giveall_count >= GIVEALLS,
+    match rule.alls.as_slice() {
+        [] => 0,
+        [.., last] => last.only.len(),
     }
 }
 
@@ -94,18 +105,9 @@ fn judge_order(late: bool, full: bool) -> Result<(), RuleFault>
     Ok(())
 }
 
-pub(crate) fn may_add(rule: &RuleRecord, part: HeadSort) -> Result<(), RuleFault>
-    requires { Within rule.now }
-    ensures { result ≡ may_add part (rule_seen rule.now) }
+// Whether a part of this sort may come next.
+pub(crate) fn may_add<P: PartSort>(rule: &RuleRecord, sort: P) -> Result<(), RuleFault>
+    ensures { result ≡ in_order (P.PartSort.late sort (stage (rule_seen rule.now))) (P.PartSort.full sort (rule_seen rule.now)) }
 {
-    let place = place_of_last(rule);
-    judge_order(is_late(part, place), is_full(rule, part))
-}
-
-pub(crate) fn may_add_body(rule: &RuleRecord, part: BodySort) -> Result<(), RuleFault>
-    requires { Within rule.now }
-    ensures { result ≡ may_add_body part (rule_seen rule.now) }
-{
-    let place = place_of_last(rule);
-    judge_order(is_late_body(part, place), is_full_body(rule, part))
+    judge_order(sort.is_late(place_of_last(rule)), sort.is_full(rule))
 }

@@ -1,5 +1,8 @@
-//! The parts of a rule, as plain data: fixed arrays, and counts of how much of them is used.
+//! The parts of a rule, in lists of bounded length.
+ghost use Rattle.std.specs.Prelude.{◌≤◌};
+
 use facts::{Operator, Relation, WORDS};
+use lists::FixedList;
 
 /// How many rules a set has at most.
 pub const RULES: usize = 32;
@@ -26,7 +29,7 @@ pub const GIVES: usize = 4;
 pub const GIVEALLS: usize = 2;
 
 /// An argument of a head: a letter (0 is A), a constant, or `*`, which fits every word.
-#[derive(Clone, Copy)]
+#[derive(Clone, Copy, Debug, PartialEq, Eq)]
 pub enum Argument {
     Letter(u8),
     Constant(i64),
@@ -34,7 +37,7 @@ pub enum Argument {
 }
 
 /// An operand of a term: a letter (0 is A), a constant, or a word of the fact taken (0 is X).
-#[derive(Clone, Copy)]
+#[derive(Clone, Copy, Debug, PartialEq, Eq)]
 pub enum Operand {
     Letter(u8),
     Constant(i64),
@@ -42,14 +45,14 @@ pub enum Operand {
 }
 
 /// An operand, or two joined by an operator.
-#[derive(Clone, Copy)]
+#[derive(Clone, Copy, Debug, PartialEq, Eq)]
 pub enum Term {
     One(Operand),
     Two(Operand, Operator, Operand),
 }
 
 /// Two terms and the relation in which they are to stand.
-#[derive(Clone, Copy)]
+#[derive(Clone, Copy, Debug, PartialEq, Eq)]
 pub struct Comparison {
     pub left: Term,
     pub relation: Relation,
@@ -57,14 +60,14 @@ pub struct Comparison {
 }
 
 /// A head: the kind and the arguments that a fact is to fit.
-#[derive(Clone, Copy)]
+#[derive(Clone, Copy, Debug, PartialEq, Eq)]
 pub struct Pattern {
     pub kind: u8,
     pub args: [Argument; WORDS],
 }
 
 /// A fact of the body: its kind, and the terms that give its words.
-#[derive(Clone, Copy)]
+#[derive(Clone, Copy, Debug, PartialEq, Eq)]
 pub struct Template {
     pub kind: u8,
     pub terms: [Term; WORDS],
@@ -75,12 +78,11 @@ pub struct Template {
 pub struct AllRecord {
     pub drops: bool,
     pub pattern: Pattern,
-    pub only: [Comparison; ONLYS],
-    pub only_count: usize,
+    pub only: FixedList<Comparison, ONLYS>,
 }
 
 /// A fact of the body for every fact that an all head took: which all head, from 1, and the fact.
-#[derive(Clone, Copy)]
+#[derive(Clone, Copy, Debug, PartialEq, Eq)]
 pub struct GiveAll {
     pub over: u8,
     pub each: Template,
@@ -89,47 +91,43 @@ pub struct GiveAll {
 /// The record of a rule. Of its single heads the first are `keep` heads, and those behind them `drop` heads.
 #[derive(Clone, Copy)]
 pub struct RuleRecord {
-    pub singles: [Pattern; SINGLES],
+    pub singles: FixedList<Pattern, SINGLES>,
     pub keep_count: usize,
-    pub single_count: usize,
-    pub alls: [AllRecord; ALLS],
-    pub all_count: usize,
-    pub whens: [Comparison; WHENS],
-    pub when_count: usize,
-    pub gives: [Template; GIVES],
-    pub give_count: usize,
-    pub givealls: [GiveAll; GIVEALLS],
-    pub giveall_count: usize,
+    pub alls: FixedList<AllRecord, ALLS>,
+    pub whens: FixedList<Comparison, WHENS>,
+    pub gives: FixedList<Template, GIVES>,
+    pub givealls: FixedList<GiveAll, GIVEALLS>,
+    ghost keeps: { keep_count ≤ singles.count },
 }
 
 /// Where a head stands: the index of its rule in the set, and its place among the rule's single heads, both from 0.
-#[derive(Clone, Copy)]
+#[derive(Clone, Copy, Debug, PartialEq, Eq)]
 pub struct HeadPlace {
     pub rule: u8,
     pub place: u8,
 }
 
-/// Why a part is turned down. Each case has a number (docs/REFUSALS.md).
-#[derive(Clone, Copy)]
+/// Why a part is turned down. The number of each case stands beside it (docs/REFUSALS.md).
+#[derive(Clone, Copy, Debug, PartialEq, Eq)]
 pub enum RuleFault {
     /// The kind is not from 0 to 63.
-    Kind,
+    Kind = 1,
     /// A constant is not valid in the set's word system.
-    Word,
+    Word = 2,
     /// A letter stands in no single head, a word of the fact taken or `*` stands where it may not.
-    Letter,
+    Letter = 3,
     /// The part is one too many.
-    TooMany,
+    TooMany = 4,
     /// The rule has no `drop` head.
-    NoDrop,
+    NoDrop = 5,
     /// The all head that is named is not there.
-    NoAllHead,
+    NoAllHead = 6,
     /// The part is out of order.
-    OutOfOrder,
+    OutOfOrder = 9,
 }
 
 /// The sorts of a part that stands before the body.
-#[derive(Clone, Copy)]
+#[derive(Clone, Copy, Debug, PartialEq, Eq)]
 pub enum HeadSort {
     Keep,
     Drop,
@@ -140,14 +138,14 @@ pub enum HeadSort {
 }
 
 /// The sorts of a part of the body.
-#[derive(Clone, Copy)]
+#[derive(Clone, Copy, Debug, PartialEq, Eq)]
 pub enum BodySort {
     Give,
     GiveAll,
 }
 
 /// A part that stands before the body: a single head, an all head, or a comparison.
-#[derive(Clone, Copy)]
+#[derive(Clone, Copy, Debug, PartialEq, Eq)]
 pub enum HeadPart {
     Keep(Pattern),
     Drop(Pattern),
@@ -158,7 +156,7 @@ pub enum HeadPart {
 }
 
 /// A part of the body.
-#[derive(Clone, Copy)]
+#[derive(Clone, Copy, Debug, PartialEq, Eq)]
 pub enum BodyPart {
     Give(Template),
     GiveAll(GiveAll),

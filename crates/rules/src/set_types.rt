@@ -19,7 +19,7 @@ pub struct OpenSet<W> {
 pub struct RuleHead<W> {
     pub(crate) system: PhantomData<W>,
     pub(crate) table: Table,
-    ghost room: { table.len < 32 },
+    ghost room: { table.rules.count < 32 },
     ghost stands: { stand every_word (finished table) ≡ true },
     ghost parts: { accepted (parts_verdict every_word (draft table)) ≡ true },
 }
@@ -29,7 +29,7 @@ pub struct RuleHead<W> {
 pub struct RuleBody<W> {
     pub(crate) system: PhantomData<W>,
     pub(crate) table: Table,
-    ghost room: { table.len < 32 },
+    ghost room: { table.rules.count < 32 },
     ghost stands: { stand every_word (finished table) ≡ true },
     ghost parts: { accepted (parts_verdict every_word (draft table)) ≡ true },
 }

@@ -4,7 +4,8 @@ ghost use Rattle.rules.specs.Writing.{no_parts, may_add, may_add_body, single_ve
 ghost use Rattle.rules.specs.Tables.{finished, draft, may_begin, may_end, Added};
 ghost use Rattle.rules.specs.Closed.{accepted, parts_verdict, stand};
 
-use crate::judging::judge_single;
+use crate::judging::{judge_all, judge_over, judge_single, judge_term};
+use crate::ordering::may_add;
 use crate::rule_types::{Argument, BodyPart, BodySort, HeadPart, HeadSort, RULES, RuleFault, Term};
 use crate::set_types::{OpenSet, RuleBody, RuleHead};
 use crate::table::new_table;
@@ -26,7 +27,7 @@ impl<W: Words> OpenSet<W> {
     pub fn may_begin(&self) -> Result<(), RuleFault>
         ensures { result ≡ may_begin (finished self.now.table) }
     {
-        if self.table.count() < RULES {
+        if self.table.rules().len() < RULES {
             Ok(())
         } else {
             Err(RuleFault::TooMany)
@@ -50,7 +51,7 @@ impl<W: Words> RuleHead<W> {
     pub fn may_add(&self, sort: HeadSort) -> Result<(), RuleFault>
         ensures { result ≡ may_add sort (draft self.now.table) }
     {
-        self.table.may_add_head(sort)
+        may_add::<HeadSort>(self.table.draft(), sort)
     }
 
     /// How an argument of a single head is judged: 2 or 3. A letter of A to H and a valid constant pass.
@@ -64,14 +65,14 @@ impl<W: Words> RuleHead<W> {
     pub fn judge_all(&self, argument: Argument) -> Result<(), RuleFault>
         ensures { result ≡ all_verdict W.Words.system.valid (draft self.now.table) argument }
     {
-        self.table.judge_all::<W>(argument)
+        judge_all::<W>(self.table.draft(), argument)
     }
 
     /// How a term of a comparison is judged, its operands from left to right: 2 or 3. X, Y and Z may stand in an `only`.
     pub fn judge_term(&self, in_only: bool, term: Term) -> Result<(), RuleFault>
         ensures { result ≡ term_verdict W.Words.system.valid (draft self.now.table) in_only term }
     {
-        self.table.judge_term::<W>(in_only, term)
+        judge_term::<W>(self.table.draft(), in_only, term)
     }
 
     /// A head or a comparison more: 9, 4, then its fields from left to right. A refused part changes nothing.
@@ -79,7 +80,7 @@ impl<W: Words> RuleHead<W> {
         ensures added { Added (add_head W.Words.system.valid part (draft self.old.table)) self.old.table self.new.table result }
         ensures stands { accepted (parts_verdict W.Words.system.valid (draft self.old.table)) ≡ true → accepted (parts_verdict W.Words.system.valid (draft self.new.table)) ≡ true }
     {
-        self.table.add_head::<W>(part)
+        self.table.add::<W, HeadPart>(part)
     }
 
     /// The rule's body begins.
@@ -91,26 +92,27 @@ impl<W: Words> RuleHead<W> {
     }
 }
 
+// `may_add`, `judge_term` and `add` stand in both stages: they are two types, each with the functions of the parts that may come next.
 impl<W: Words> RuleBody<W> {
     /// Whether a part of this sort may come next: 9, then 4.
     pub fn may_add(&self, sort: BodySort) -> Result<(), RuleFault>
         ensures { result ≡ may_add_body sort (draft self.now.table) }
     {
-        self.table.may_add_body(sort)
+        may_add::<BodySort>(self.table.draft(), sort)
     }
 
     /// Which all head a number means: 6 where the rule has none of that number.
     pub fn judge_over(&self, number: i64) -> Result<u8, RuleFault>
         ensures { result ≡ over_verdict (draft self.now.table) number }
     {
-        self.table.judge_over(number)
+        judge_over(self.table.draft(), number)
     }
 
     /// How a term of a fact is judged, its operands from left to right: 2 or 3. X, Y and Z may stand in a `giveall`.
     pub fn judge_term(&self, in_giveall: bool, term: Term) -> Result<(), RuleFault>
         ensures { result ≡ term_verdict W.Words.system.valid (draft self.now.table) in_giveall term }
     {
-        self.table.judge_term::<W>(in_giveall, term)
+        judge_term::<W>(self.table.draft(), in_giveall, term)
     }
 
     /// A fact more that the rule gives: 9, 4, then its fields from left to right. A refused part changes nothing.
@@ -118,14 +120,15 @@ impl<W: Words> RuleBody<W> {
         ensures added { Added (add_body W.Words.system.valid part (draft self.old.table)) self.old.table self.new.table result }
         ensures stands { accepted (parts_verdict W.Words.system.valid (draft self.old.table)) ≡ true → accepted (parts_verdict W.Words.system.valid (draft self.new.table)) ≡ true }
     {
-        self.table.add_body::<W>(part)
+        self.table.add::<W, BodyPart>(part)
     }
 
     /// Whether the rule may end: 5 where it has no `drop` head.
     pub fn may_end(&self) -> Result<(), RuleFault>
         ensures { result ≡ may_end (draft self.now.table) }
     {
-        if self.table.drop_count() > 0 {
+        let rule = self.table.draft();
+        if rule.singles.len() > rule.keep_count {
             Ok(())
         } else {
             Err(RuleFault::NoDrop)

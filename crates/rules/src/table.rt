@@ -1,22 +1,19 @@
-//! The rule being written is lent out of the table to be changed.
-ghost use Rattle.std.specs.Prelude.{◌≡◌, ◌<◌, [], ◌∷◌, ◌++◌, length, Ok, OnSome};
-ghost use Rattle.rules.specs.Writing.{no_parts, add_head, add_body, may_add, may_add_body, all_verdict, term_verdict, over_verdict};
-ghost use Rattle.rules.specs.Rules.{rule_seen, any, Within};
-ghost use Rattle.rules.specs.Tables.{finished, draft, may_begin, Added};
+//! The rules of a set. The record of the rule being written is lent out of the table to be changed.
+ghost use Rattle.std.specs.Prelude.{◌≡◌, ◌<◌, [], ◌∷◌, ◌++◌, length, map, Ok, OnSome};
+ghost use Rattle.rules.specs.Writing.{no_parts};
+ghost use Rattle.rules.specs.Rules.{rule_seen, any};
+ghost use Rattle.rules.specs.Tables.{finished, draft, may_begin, WroteAt, Added};
 ghost use Rattle.rules.specs.Closed.{IsRuleAt, head_count, head_from, place_seen, names, watched_kinds};
 
 use crate::closed_type::KIND_COUNT;
-use crate::judging::{judge_all, judge_over, judge_term};
-use crate::ordering::{may_add, may_add_body};
-use crate::pushing::BLANK;
 use crate::rule_types::{
-    ALLS, AllRecord, Argument, BodyPart, BodySort, GIVEALLS, GIVES, GiveAll, HeadPart, HeadPlace,
-    HeadSort, ONLYS, Operand, Pattern, RULES, RuleFault, RuleRecord, SINGLES, Template, Term,
-    WHENS,
+    AllRecord, Argument, GiveAll, HeadPlace, Operand, Pattern, RuleFault, RuleRecord, Template,
+    Term,
 };
 use crate::table_type::Table;
-use crate::writing::{write_body, write_head};
+use crate::writing::{BLANK, Part};
 use facts::{KINDS, WORDS, Words};
+use lists::FixedList;
 
 // What stands in the unused places of a record.
 const NO_PATTERN: Pattern = Pattern {
@@ -29,32 +26,26 @@ const NO_TEMPLATE: Template = Template {
     terms: [Term::One(Operand::Constant(0)); WORDS],
 };
 
-const NO_ALL: AllRecord = AllRecord {
-    drops: false,
-    pattern: NO_PATTERN,
-    only: [BLANK; ONLYS],
-    only_count: 0,
+const NO_GIVEALL: GiveAll = GiveAll {
+    over: 0,
+    each: NO_TEMPLATE,
 };
 
 fn blank_rule() -> RuleRecord
-    ensures meaning { rule_seen result ≡ no_parts }
-    ensures within { Within result }
+    ensures { rule_seen result ≡ no_parts }
 {
+    let no_all = AllRecord {
+        drops: false,
+        pattern: NO_PATTERN,
+        only: FixedList::new(BLANK),
+    };
     RuleRecord {
-        singles: [NO_PATTERN; SINGLES],
+        singles: FixedList::new(NO_PATTERN),
         keep_count: 0,
-        single_count: 0,
-        alls: [NO_ALL; ALLS],
-        all_count: 0,
-        whens: [BLANK; WHENS],
-        when_count: 0,
-        gives: [NO_TEMPLATE; GIVES],
-        give_count: 0,
-        givealls: [GiveAll {
-            over: 0,
-            each: NO_TEMPLATE,
-        }; GIVEALLS],
-        giveall_count: 0,
+        alls: FixedList::new(no_all),
+        whens: FixedList::new(BLANK),
+        gives: FixedList::new(NO_TEMPLATE),
+        givealls: FixedList::new(NO_GIVEALL),
     }
 }
 
@@ -62,29 +53,47 @@ pub(crate) fn new_table() -> Table
     ensures { finished result ≡ [] }
 {
     Table {
-        rules: [blank_rule(); RULES],
-        len: 0,
+        rules: FixedList::new(blank_rule()),
     }
 }
 
 fn rule_names(rule: &RuleRecord, kind: u8) -> bool
-    requires { Within rule.now }
     ensures { result ≡ names kind (rule_seen rule.now) }
 {
-    for i in 0..rule.all_count {
-        if rule.alls[i].pattern.kind == kind {
+    for all in rule.alls.as_slice() {
+        if all.pattern.kind == kind {
             return true;
         }
     }
     false
 }
 
+// A part is written into the record at an index.
+fn write_at<W: Words, P: Part>(
+    records: &mut [RuleRecord],
+    at: usize,
+    part: P,
+) -> Result<(), RuleFault>
+    requires { at < length records.old }
+    ensures { WroteAt at (P.Part.added W.Words.system.valid part) records.old records.new result }
+{
+    part.write::<W>(&mut records[at])
+}
+
 impl Table {
-    // How many rules the set has.
-    pub(crate) fn count(&self) -> usize
-        ensures { result ≡ length (finished self.now) }
+    // The records of the rules of the set.
+    pub(crate) fn rules(&self) -> &[RuleRecord]
+        ensures { map rule_seen result.now ≡ finished self.now }
     {
-        self.len
+        self.rules.as_slice()
+    }
+
+    // The record of the rule being written.
+    pub(crate) fn draft(&self) -> &RuleRecord
+        requires { self.now.rules.count < 32 }
+        ensures { rule_seen result.now ≡ draft self.now }
+    {
+        &self.rules.items[self.rules.count]
     }
 
     // The record behind the last rule is made blank.
@@ -92,78 +101,27 @@ impl Table {
         requires { may_begin (finished self.old) ≡ Ok tt }
         ensures rules { finished self.new ≡ finished self.old }
         ensures rule { draft self.new ≡ no_parts }
-        ensures room { self.new.len < 32 }
+        ensures room { self.new.rules.count < 32 }
     {
-        let at = self.len;
-        self.rules[at] = blank_rule();
+        let at = self.rules.count;
+        self.rules.items[at] = blank_rule();
     }
 
     // The rule being written becomes the last rule.
     pub(crate) fn end_draft(&mut self)
-        requires { self.old.len < 32 }
+        requires { self.old.rules.count < 32 }
         ensures { finished self.new ≡ finished self.old ++ (draft self.old ∷ []) }
     {
-        self.len += 1;
+        self.rules.count += 1;
     }
 
-    pub(crate) fn may_add_head(&self, sort: HeadSort) -> Result<(), RuleFault>
-        requires { self.now.len < 32 }
-        ensures { result ≡ may_add sort (draft self.now) }
+    // The rule being written gets one part more, or the part is turned down.
+    pub(crate) fn add<W: Words, P: Part>(&mut self, part: P) -> Result<(), RuleFault>
+        requires { self.old.rules.count < 32 }
+        ensures { Added (P.Part.added W.Words.system.valid part (draft self.old)) self.old self.new result }
     {
-        may_add(&self.rules[self.len], sort)
-    }
-
-    pub(crate) fn may_add_body(&self, sort: BodySort) -> Result<(), RuleFault>
-        requires { self.now.len < 32 }
-        ensures { result ≡ may_add_body sort (draft self.now) }
-    {
-        may_add_body(&self.rules[self.len], sort)
-    }
-
-    pub(crate) fn judge_all<W: Words>(&self, argument: Argument) -> Result<(), RuleFault>
-        requires { self.now.len < 32 }
-        ensures { result ≡ all_verdict W.Words.system.valid (draft self.now) argument }
-    {
-        judge_all::<W>(&self.rules[self.len], argument)
-    }
-
-    pub(crate) fn judge_term<W: Words>(&self, taken: bool, term: Term) -> Result<(), RuleFault>
-        requires { self.now.len < 32 }
-        ensures { result ≡ term_verdict W.Words.system.valid (draft self.now) taken term }
-    {
-        judge_term::<W>(&self.rules[self.len], taken, term)
-    }
-
-    pub(crate) fn judge_over(&self, number: i64) -> Result<u8, RuleFault>
-        requires { self.now.len < 32 }
-        ensures { result ≡ over_verdict (draft self.now) number }
-    {
-        judge_over(&self.rules[self.len], number)
-    }
-
-    // How many `drop` heads the rule being written has.
-    pub(crate) fn drop_count(&self) -> usize
-        requires { self.now.len < 32 }
-        ensures { result ≡ length (draft self.now).drops }
-    {
-        let rule = &self.rules[self.len];
-        rule.single_count - rule.keep_count
-    }
-
-    pub(crate) fn add_head<W: Words>(&mut self, part: HeadPart) -> Result<(), RuleFault>
-        requires { self.old.len < 32 }
-        ensures { Added (add_head W.Words.system.valid part (draft self.old)) self.old self.new result }
-    {
-        let at = self.len;
-        write_head::<W>(&mut self.rules[at], part)
-    }
-
-    pub(crate) fn add_body<W: Words>(&mut self, part: BodyPart) -> Result<(), RuleFault>
-        requires { self.old.len < 32 }
-        ensures { Added (add_body W.Words.system.valid part (draft self.old)) self.old self.new result }
-    {
-        let at = self.len;
-        write_body::<W>(&mut self.rules[at], part)
+        let at = self.rules.count;
+        write_at::<W, P>(&mut self.rules.items, at, part)
     }
 
     // How many heads the rules of the set have.
@@ -171,8 +129,8 @@ impl Table {
         ensures { result ≡ head_count (finished self.now) }
     {
         let mut heads = 0;
-        for i in 0..self.len {
-            heads += self.rules[i].single_count;
+        for rule in self.rules.as_slice() {
+            heads += rule.singles.len();
         }
         heads
     }
@@ -183,8 +141,8 @@ impl Table {
         ensures few { OnSome result (number < 128) }
     {
         let mut left = number;
-        for i in 0..self.len {
-            let heads = self.rules[i].single_count;
+        for (i, rule) in self.rules.as_slice().iter().enumerate() {
+            let heads = rule.singles.len();
             if left < heads {
                 return Some(HeadPlace {
                     rule: i as u8,
@@ -196,23 +154,12 @@ impl Table {
         None
     }
 
-    // The record of the rule at an index, or none.
-    pub(crate) fn rule_at(&self, index: usize) -> Option<&RuleRecord>
-        ensures { IsRuleAt (finished self.now) index result }
-    {
-        if index < self.len {
-            Some(&self.rules[index])
-        } else {
-            None
-        }
-    }
-
     // Whether some all head of the set names the kind.
     fn names_kind(&self, kind: u8) -> bool
         ensures { result ≡ any (names kind) (finished self.now) }
     {
-        for i in 0..self.len {
-            if rule_names(&self.rules[i], kind) {
+        for rule in self.rules.as_slice() {
+            if rule_names(rule, kind) {
                 return true;
             }
         }
@@ -223,6 +170,7 @@ impl Table {
     pub(crate) fn watched(&self) -> [bool; KIND_COUNT]
         ensures { result ≡ watched_kinds (finished self.now) }
     {
+        // With `array::from_fn` it did not close: what the closure answers was not tied to this table at each of its calls.
         let mut watched = [false; KIND_COUNT];
         for kind in 0..KINDS {
             watched[usize::from(kind)] = self.names_kind(kind);

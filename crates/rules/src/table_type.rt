@@ -1,15 +1,9 @@
 //! The rules of a set, and the one that is being written behind them.
-ghost use Rattle.std.specs.Prelude.{◌≡◌, ◌≤◌, true, length};
-ghost use Rattle.rules.specs.Rules.{all, within};
-
 use crate::rule_types::{RULES, RuleRecord};
+use lists::FixedList;
 
-/// The first `len` records are the rules of the set; the next is the one being written, where one is.
+/// The records of the list are the rules of the set; the record behind the last is the one being written, where one is.
 #[derive(Drop)]
 pub struct Table {
-    pub(crate) rules: [RuleRecord; RULES],
-    pub(crate) len: usize,
-    ghost wide: { length rules ≡ 32 },
-    ghost few: { len ≤ 32 },
-    ghost sound: { all within rules ≡ true },
+    pub(crate) rules: FixedList<RuleRecord, RULES>,
 }

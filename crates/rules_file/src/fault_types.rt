@@ -3,7 +3,7 @@ use rows::{FieldFault, Place};
 use rules::RuleFault;
 
 /// What is wrong with a row of rules.
-#[derive(Clone, Copy)]
+#[derive(Clone, Copy, Debug, PartialEq, Eq)]
 pub enum RowFault {
     /// The bytes begin no row, or the row has another number of fields.
     Malformed(u32),

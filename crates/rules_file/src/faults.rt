@@ -4,7 +4,7 @@ ghost use Rattle.rules_file.specs.RuleRefusals.{row_refusal};
 ghost use Rattle.rules_file.specs.declared.fault_types.RowFault.TheVariants.{Field};
 
 use crate::fault_types::RowFault;
-use rows::{FieldFault, Layer, Refusal};
+use rows::{FieldFault, Layer, Place, Refusal};
 
 impl From<FieldFault> for RowFault {
     ghost from_gives = { λ e r. r ≡ Field e };
@@ -19,24 +19,9 @@ impl From<RowFault> for Refusal {
 
     fn from(fault: RowFault) -> Refusal {
         match fault {
-            RowFault::Malformed(row) => Refusal {
-                number: 7,
-                row,
-                field: 0,
-                layer: Layer::Reader,
-            },
-            RowFault::Field(fault) => Refusal {
-                number: 8,
-                row: fault.place.row,
-                field: fault.place.field,
-                layer: Layer::Reader,
-            },
-            RowFault::Set(fault, place) => Refusal {
-                number: fault.number(),
-                row: place.row,
-                field: place.field,
-                layer: Layer::RuleSet,
-            },
+            RowFault::Malformed(row) => Refusal::at(7, Place::whole_row(row), Layer::Reader),
+            RowFault::Field(fault) => Refusal::at(8, fault.place, Layer::Reader),
+            RowFault::Set(fault, place) => Refusal::at(fault.number(), place, Layer::RuleSet),
         }
     }
 }

@@ -2,7 +2,7 @@
 use rules::{BodySort, HeadSort};
 
 /// What the first field of a row says: a rule begins, a part before the body follows, or a part of the body.
-#[derive(Clone, Copy)]
+#[derive(Clone, Copy, Debug, PartialEq, Eq)]
 pub enum RowWord {
     Rule,
     Head(HeadSort),

@@ -5,17 +5,20 @@
 mod input;
 mod telling;
 
-use facts::{Fact, Lengths, WORDS};
+ghost use Rattle.std.specs.Prelude.{◌≡◌};
+ghost use Rattle.runplan.specs.declared.Failed.TheVariants.{Output};
+
+use facts::{Fact, Lengths};
 use input::{BUFFER, PATH, argument, argument_count, read_file};
 use machine::End;
-use printing::{CAPACITY, Checked, check_facts, check_rules, print_job};
+use printing::{CAPACITY, NO_FACTS, Refused, check_facts, check_rules, print_job};
 use reader::MOST_FACTS;
 use rules::ClosedSet;
 use std::fs::Files;
 use std::io;
 use std::process::ExitCode;
 use std::rt::Env;
-use stores::{Row, Rows, Store};
+use stores::Rows;
 use telling::{Source, explain_count, explain_end, explain_refusal};
 
 /// Why the program ends with status 1.
@@ -28,34 +31,32 @@ enum Failed {
 }
 
 impl From<io::Error> for Failed {
+    ghost from_gives = { λ e f. f ≡ Output e };
+
     fn from(error: io::Error) -> Failed {
         Failed::Output(error)
     }
 }
 
-// What was read; where the file is refused, its row is printed, and a sentence says why.
-fn accepted<T: Drop, R: Print + Eprint>(
+// What the check makes of the file; where it is refused, its row is printed, and a sentence says why.
+fn read<T: Drop, R: Files + Print + Eprint, C: FnOnce(Option<&[u8]>) -> Result<T, Refused>>(
     rt: &R,
     source: Source,
     path: &str,
-    found: bool,
-    checked: Checked<T>,
-) -> Result<T, Failed> {
-    match checked {
-        Checked::Accepted(value) => Ok(value),
-        Checked::Refused(refusal, line) => {
+    check: C,
+) -> Result<T, Failed>
+    requires { C.IsAlwaysCallable check }
+{
+    let mut buffer = [0; BUFFER];
+    let file = read_file(rt, path, &mut buffer);
+    match check(file) {
+        Ok(value) => Ok(value),
+        Err(Refused { refusal, line }) => {
             rt.write_all(line.text())?;
-            explain_refusal(rt, source, path, found, &refusal)?;
+            explain_refusal(rt, source, path, file.is_some(), &refusal)?;
             Err(Failed::Refused)
         }
     }
-}
-
-fn read_rules<R: Files + Print + Eprint>(rt: &R, path: &str) -> Result<ClosedSet<Lengths>, Failed> {
-    let mut buffer = [0; BUFFER];
-    let file = read_file(rt, path, &mut buffer);
-    let found = file.is_some();
-    accepted(rt, Source::Rules, path, found, check_rules(file))
 }
 
 fn read_facts<R: Files + Print + Eprint>(
@@ -63,24 +64,24 @@ fn read_facts<R: Files + Print + Eprint>(
     path: &str,
     table: &mut [Fact; MOST_FACTS],
 ) -> Result<usize, Failed> {
-    let mut buffer = [0; BUFFER];
-    let file = read_file(rt, path, &mut buffer);
-    let found = file.is_some();
-    accepted(rt, Source::Facts, path, found, check_facts(file, table))
+    read(rt, Source::Facts, path, |file| check_facts(file, table))
 }
 
-fn no_facts() -> [Fact; MOST_FACTS] {
-    [Fact {
-        kind: 0,
-        words: [0; WORDS],
-    }; MOST_FACTS]
+// The rules, and how many facts are in the table. The rules file is read to its end before the facts file is opened.
+fn read_job<R: Files + Print + Eprint>(
+    rt: &R,
+    rules: &str,
+    facts: &str,
+    table: &mut [Fact; MOST_FACTS],
+) -> Result<(ClosedSet<Lengths>, usize), Failed> {
+    let set = read(rt, Source::Rules, rules, |file| check_rules(file))?;
+    let count = read_facts(rt, facts, table)?;
+    Ok((set, count))
 }
 
-// The rules file is read to its end before the facts file is opened.
 fn check<R: Files + Print + Eprint>(rt: &R, rules: &str, facts: &str) -> Result<(), Failed> {
-    let set = read_rules(rt, rules)?;
-    let mut table = no_facts();
-    let fact_count = read_facts(rt, facts, &mut table)?;
+    let mut table = NO_FACTS;
+    let (set, fact_count) = read_job(rt, rules, facts, &mut table)?;
     let rule_count = set.rule_count();
     let heads = set.head_count();
     eprintln!(rt; "{rules}: {rule_count} rules with {heads} heads; {facts}: {fact_count} facts")?;
@@ -88,20 +89,19 @@ fn check<R: Files + Print + Eprint>(rt: &R, rules: &str, facts: &str) -> Result<
 }
 
 fn check_survey<R: Files + Print + Eprint>(rt: &R, facts: &str) -> Result<(), Failed> {
-    let mut table = no_facts();
+    let mut table = NO_FACTS;
     let count = read_facts(rt, facts, &mut table)?;
     explain_count(rt, facts, count)?;
     Ok(())
 }
 
 // The job is printed, and a sentence says why it did not end quiet.
-fn work<S: Store + Drop, R: Print + Eprint>(
-    rt: &R,
-    set: ClosedSet<Lengths>,
-    store: S,
-    facts: &[Fact],
-) -> Result<(), Failed> {
-    match print_job(rt, set, store, facts)? {
+fn plan<R: Files + Print + Eprint>(rt: &R, rules: &str, facts: &str) -> Result<(), Failed> {
+    let mut table = NO_FACTS;
+    let (set, count) = read_job(rt, rules, facts, &mut table)?;
+    let mut rows = [None; CAPACITY];
+    let store = Rows::new(&mut rows);
+    match print_job(rt, set, store, &table[0..count.min(MOST_FACTS)])? {
         Some((End::Quiet, _)) => Ok(()),
         Some((end, steps)) => {
             explain_end(rt, end, steps)?;
@@ -109,15 +109,6 @@ fn work<S: Store + Drop, R: Print + Eprint>(
         }
         None => Err(Failed::Refused),
     }
-}
-
-fn plan<R: Files + Print + Eprint>(rt: &R, rules: &str, facts: &str) -> Result<(), Failed> {
-    let set = read_rules(rt, rules)?;
-    let mut table = no_facts();
-    let count = read_facts(rt, facts, &mut table)?;
-    let mut rows = [Row::Free; CAPACITY];
-    let store = Rows::new(&mut rows);
-    work(rt, set, store, &table[0..count.min(MOST_FACTS)])
 }
 
 // Does what the arguments say; arguments of another form print how the program is called.

@@ -1,9 +1,10 @@
 //! The sentences for people, on standard error.
-use machine::End;
+use machine::{End, StepFault};
 use reader::Refusal;
 use std::io;
 
 /// Which of the two files a sentence is about.
+// A function in its place was tried: no proof is made where a bound names 'static, nor where it names a lifetime of the caller.
 #[derive(Clone, Copy)]
 pub enum Source {
     Rules,
@@ -11,6 +12,7 @@ pub enum Source {
 }
 
 // What a refusal says of the row or the field of a file of facts that it names.
+// By number: a refusal says no more, and an enum here would list the numbers once more.
 fn meaning_in_facts(number: u8) -> &'static str {
     match number {
         1 => "the kind is not from 0 to 63",
@@ -51,33 +53,28 @@ pub fn explain_refusal<R: Eprint>(
     found: bool,
     refusal: &Refusal,
 ) -> io::Result<()> {
-    let Refusal {
-        number,
-        row,
-        field,
-        ..
-    } = *refusal;
-    if row == 0 && found {
-        return eprintln!(rt; "{path}: the file has more than 65536 bytes (refusal {number})");
-    }
-    if row == 0 {
-        return eprintln!(rt; "{path}: there is no file that can be read (refusal {number})");
-    }
+    let number = refusal.number;
     let what = meaning(source, number);
-    if field == 0 {
-        return eprintln!(rt; "{path}, row {row}: {what} (refusal {number})");
+    match (refusal.row, refusal.field) {
+        (0, _) if found => {
+            eprintln!(rt; "{path}: the file has more than 65536 bytes (refusal {number})")
+        }
+        (0, _) => { eprintln!(rt; "{path}: there is no file that can be read (refusal {number})") }
+        (row, 0) => { eprintln!(rt; "{path}, row {row}: {what} (refusal {number})") }
+        (row, field) => {
+            eprintln!(rt; "{path}, row {row}, field {field}: {what} (refusal {number})")
+        }
     }
-    eprintln!(rt; "{path}, row {row}, field {field}: {what} (refusal {number})")
 }
 
 // What stopped a run.
-fn shortage(number: u8) -> &'static str {
-    match number {
-        10 => "the store would have more facts than its capacity",
-        11 => "there would be more than 512 goals",
-        12 => "there would be a label above 1000000",
-        13 => "a term of a rule's body has no value",
-        _ => "the list of labels is too short",
+fn shortage(fault: StepFault) -> &'static str {
+    match fault {
+        StepFault::Facts => "the store would have more facts than its capacity",
+        StepFault::Goals => "there would be more than 512 goals",
+        StepFault::Labels => "there would be a label above 1000000",
+        StepFault::Body => "a term of a rule's body has no value",
+        StepFault::List => "the list of labels is too short",
     }
 }
 
@@ -96,7 +93,7 @@ pub fn explain_end<R: Eprint>(rt: &R, end: End, steps: u32) -> io::Result<()> {
         End::Spent => { eprintln!(rt; "stopped after {steps} steps: a rule may still have work") }
         End::Stopped(fault) => {
             let number = fault.number();
-            let why = shortage(number);
+            let why = shortage(fault);
             eprintln!(rt; "stopped after {steps} steps: {why} (refusal {number})")
         }
     }

@@ -34,195 +34,126 @@ fn fact_of(seed: u32) -> Fact {
     }
 }
 
-fn same_words(left: [i64; 3], right: [i64; 3]) -> bool {
-    left[0] == right[0] && left[1] == right[1] && left[2] == right[2]
+/// The answer, with the fault's number.
+fn numbered(answer: Result<(), StoreFault>) -> Result<(), u8> {
+    answer.map_err(|fault| fault.number())
 }
 
-fn same_fact(left: Option<Fact>, right: Option<Fact>) -> bool {
-    match (left, right) {
-        (Some(left), Some(right)) => left.kind == right.kind && same_words(left.words, right.words),
-        (None, None) => true,
-        _ => false,
+/// A store on trial, and beside it a plain map of what it is to hold.
+#[derive(Drop)]
+struct Trial<'a, S: Store> {
+    store: &'a mut S,
+    map: &'a mut [Option<Fact>],
+    capacity: usize,
+}
+
+impl<S: Store> Trial<'_, S> {
+    fn held(&self) -> usize {
+        self.map.iter().flatten().count()
     }
-}
 
-/// 0 for an accepted pair, else the fault's number.
-fn number_of(answer: Result<(), StoreFault>) -> u8 {
-    match answer {
-        Ok(()) => 0,
-        Err(fault) => fault.number(),
+    /// The first label above another whose fact passes a test.
+    fn next_that<F: Fn(&Fact) -> bool>(&self, above: u32, passes: F) -> Option<u32>
+        requires { F.IsAlwaysCallable passes }
+    {
+        self.map
+            .iter()
+            .enumerate()
+            .filter(|(_, fact)| fact.as_ref().is_some_and(|fact| passes(fact)))
+            .map(|(place, _)| label_at(place))
+            .find(|label| *label > above)
     }
-}
 
-fn held(map: &[Option<Fact>]) -> usize {
-    let mut count = 0;
-    for fact in map.iter() {
-        if fact.is_some() {
-            count += 1;
+    /// Puts a fact at a place: it is refused exactly where the place is empty and the store full.
+    fn try_put(&mut self, rt: &impl Abort, place: usize, fact: Fact) {
+        assert!(rt; place < self.map.len());
+        let full = self.map[place].is_none() && self.held() == self.capacity;
+        let answer = numbered(self.store.put(label_at(place), fact));
+        assert_eq!(rt; answer, if full { Err(10) } else { Ok(()) }, "put");
+        if !full {
+            self.map[place] = Some(fact);
         }
     }
-    count
-}
 
-fn next_of_kind(map: &[Option<Fact>], kind: u8, above: u32) -> Option<u32> {
-    for (place, fact) in map.iter().enumerate() {
-        if let Some(fact) = fact {
-            if fact.kind == kind && label_at(place) > above {
-                return Some(label_at(place));
+    /// Takes the fact of a place, or nothing.
+    fn try_take(&mut self, rt: &impl Abort, place: usize) {
+        assert!(rt; place < self.map.len());
+        let answer = self.store.take(label_at(place));
+        assert_eq!(rt; answer, self.map[place], "take");
+        self.map[place] = None;
+    }
+
+    /// Puts that are refused whatever the store holds: for the kind, also where the label is out of range, and for the label.
+    fn try_refused(&mut self, rt: &impl Abort, place: usize, fact: Fact) {
+        let words = fact.words;
+        let wrong = Fact { kind: 64, words };
+        assert_eq!(rt; numbered(self.store.put(label_at(place), wrong)), Err(1));
+        assert_eq!(rt; numbered(self.store.put(0, wrong)), Err(1));
+        assert_eq!(rt; numbered(self.store.put(0, fact)), Err(12));
+        assert_eq!(rt; numbered(self.store.put(1_000_001, fact)), Err(12));
+        assert_eq!(rt; numbered(self.store.put(u32::MAX, fact)), Err(12));
+        assert!(rt; self.store.take(0).is_none());
+    }
+
+    /// Every question about the store, for a place and a fact.
+    fn ask(&self, rt: &impl Abort, place: usize, fact: Fact) {
+        assert!(rt; place < self.map.len());
+        let above = label_at(place);
+        let held = self.map[place];
+        let Fact { kind, words } = fact;
+        let word = words[0];
+        let fits = |fact: &Fact| fact.kind == kind;
+        let fits_with = |fact: &Fact| fact.kind == kind && fact.words[0] == word;
+        assert_eq!(rt; self.store.capacity(), self.capacity, "capacity");
+        assert_eq!(rt; self.store.count(), self.held(), "count");
+        assert_eq!(rt; self.store.read(above), held, "read");
+        for above in [above, 0] {
+            assert_eq!(rt;
+                self.store.next(kind, above),
+                self.next_that(above, fits),
+                "next"
+            );
+            assert_eq!(rt;
+                self.store.next_with(kind, word, above),
+                self.next_that(above, fits_with),
+                "next with"
+            );
+        }
+    }
+
+    /// Turns of a put or a take, each with refused puts and every question behind it; of sixteen acts so many are puts.
+    fn turns(&mut self, rt: &impl Abort, puts: u32) {
+        let places = self.map.len().max(1);
+        let mut seed = puts;
+        for _ in 0..2_000 {
+            seed = stirred(seed);
+            let place = (seed >> 5) as usize % places;
+            let fact = fact_of(seed);
+            if seed >> 28 < puts {
+                self.try_put(rt, place, fact);
+            } else {
+                self.try_take(rt, place);
             }
+            let asked = stirred(seed);
+            self.try_refused(rt, place, fact);
+            self.ask(rt, (asked >> 5) as usize % places, fact_of(asked));
         }
     }
-    None
-}
 
-fn next_with_word(map: &[Option<Fact>], kind: u8, word: i64, above: u32) -> Option<u32> {
-    for (place, fact) in map.iter().enumerate() {
-        if let Some(fact) = fact {
-            if fact.kind == kind && fact.words[0] == word && label_at(place) > above {
-                return Some(label_at(place));
-            }
+    fn put_everywhere(&mut self, rt: &impl Abort) {
+        for place in 0..self.map.len() {
+            let seed = (place % PLACES) as u32;
+            self.try_put(rt, place, fact_of(stirred(seed)));
         }
+        assert_eq!(rt; self.store.count(), self.capacity);
     }
-    None
-}
 
-/// Puts a fact at a place: it is refused exactly where the place is empty and the store full.
-fn try_put<S: Store>(
-    rt: &impl Abort,
-    store: &mut S,
-    map: &mut [Option<Fact>],
-    capacity: usize,
-    place: usize,
-    fact: Fact,
-) {
-    assert!(rt; place < map.len());
-    let full = map[place].is_none() && held(map) == capacity;
-    let answer = number_of(store.put(label_at(place), fact));
-    assert_eq!(rt; answer, if full { 10 } else { 0 }, "put");
-    if !full {
-        map[place] = Some(fact);
-    }
-}
-
-/// Takes the fact of a place, or nothing.
-fn try_take<S: Store>(rt: &impl Abort, store: &mut S, map: &mut [Option<Fact>], place: usize) {
-    assert!(rt; place < map.len());
-    let answer = store.take(label_at(place));
-    assert!(rt; same_fact(answer, map[place]), "take");
-    map[place] = None;
-}
-
-/// Puts that are refused whatever the store holds: for the kind, also where the label is out of range, and for the label.
-fn try_refused<S: Store>(rt: &impl Abort, store: &mut S, place: usize, fact: Fact) {
-    let words = fact.words;
-    let wrong = Fact { kind: 64, words };
-    assert_eq!(rt; number_of(store.put(label_at(place), wrong)), 1);
-    assert_eq!(rt; number_of(store.put(0, wrong)), 1);
-    assert_eq!(rt; number_of(store.put(0, fact)), 12);
-    assert_eq!(rt; number_of(store.put(1_000_001, fact)), 12);
-    assert_eq!(rt; number_of(store.put(u32::MAX, fact)), 12);
-    assert!(rt; store.take(0).is_none());
-}
-
-/// Every question about the store, for a place and a fact.
-fn ask<S: Store>(
-    rt: &impl Abort,
-    store: &S,
-    map: &[Option<Fact>],
-    capacity: usize,
-    place: usize,
-    fact: Fact,
-) {
-    assert!(rt; place < map.len());
-    let above = label_at(place);
-    let word = fact.words[0];
-    assert_eq!(rt; store.capacity(), capacity, "capacity");
-    assert_eq!(rt; store.count(), held(map), "count");
-    assert!(rt; same_fact(store.read(above), map[place]), "read");
-    assert_eq!(rt;
-        store.next(fact.kind, above),
-        next_of_kind(map, fact.kind, above),
-        "next"
-    );
-    assert_eq!(rt;
-        store.next(fact.kind, 0),
-        next_of_kind(map, fact.kind, 0),
-        "next from 0"
-    );
-    assert_eq!(rt;
-        store.next_with(fact.kind, word, above),
-        next_with_word(map, fact.kind, word, above),
-        "next with"
-    );
-    assert_eq!(rt;
-        store.next_with(fact.kind, word, 0),
-        next_with_word(map, fact.kind, word, 0),
-        "next with from 0"
-    );
-}
-
-/// Turns of a put or a take, each with refused puts and every question behind it; of sixteen acts so many are puts.
-fn turns<S: Store>(
-    rt: &impl Abort,
-    store: &mut S,
-    map: &mut [Option<Fact>],
-    capacity: usize,
-    spread: usize,
-    puts: u32,
-) {
-    let mut seed = puts;
-    for _ in 0..2_000 {
-        seed = stirred(seed);
-        let place = (seed >> 5) as usize % spread.max(1);
-        let fact = fact_of(seed);
-        if seed >> 28 < puts {
-            try_put(rt, store, map, capacity, place, fact);
-        } else {
-            try_take(rt, store, map, place);
+    fn take_everywhere(&mut self, rt: &impl Abort) {
+        for place in 0..self.map.len() {
+            self.try_take(rt, place);
         }
-        let asked = stirred(seed);
-        try_refused(rt, store, place, fact);
-        ask(
-            rt,
-            store,
-            map,
-            capacity,
-            (asked >> 5) as usize % spread.max(1),
-            fact_of(asked),
-        );
+        assert_eq!(rt; self.store.count(), 0);
     }
-}
-
-fn put_everywhere<S: Store>(
-    rt: &impl Abort,
-    store: &mut S,
-    map: &mut [Option<Fact>],
-    capacity: usize,
-    spread: usize,
-) {
-    for place in 0..spread {
-        try_put(
-            rt,
-            store,
-            map,
-            capacity,
-            place,
-            fact_of(stirred((place % PLACES) as u32)),
-        );
-    }
-    assert_eq!(rt; store.count(), capacity);
-}
-
-fn take_everywhere<S: Store>(
-    rt: &impl Abort,
-    store: &mut S,
-    map: &mut [Option<Fact>],
-    spread: usize,
-) {
-    for place in 0..spread {
-        try_take(rt, store, map, place);
-    }
-    assert_eq!(rt; store.count(), 0);
 }
 
 /// Drives a new store of a capacity: mostly puts, until it is full and refuses, then mostly takes, and both again.
@@ -230,9 +161,14 @@ pub(crate) fn try_store<S: Store>(rt: &impl Abort, store: &mut S, capacity: usiz
     let mut map: [Option<Fact>; PLACES] = [None; PLACES];
     let spread = (2 * capacity.min(PLACES) + 2).min(PLACES);
     assert_eq!(rt; store.count(), 0);
-    turns(rt, store, &mut map, capacity, spread, 14);
-    put_everywhere(rt, store, &mut map, capacity, spread);
-    turns(rt, store, &mut map, capacity, spread, 2);
-    take_everywhere(rt, store, &mut map, spread);
-    turns(rt, store, &mut map, capacity, spread, 8);
+    let mut trial = Trial {
+        store,
+        map: &mut map[..spread],
+        capacity,
+    };
+    trial.turns(rt, 14);
+    trial.put_everywhere(rt);
+    trial.turns(rt, 2);
+    trial.take_everywhere(rt);
+    trial.turns(rt, 8);
 }

@@ -1,35 +1,28 @@
 -- What the inner functions of a store of rows answer. No contract of a public function cites this.
-use Rattle.std.specs.Prelude.{◌≡◌, ℕ, ◌<◌, Bool, true, false, cond, ◌&&◌, ◌||◌, List, length, Some, None, Ok, Option, nat_lt, slice_index_or, slice_set}
+use Rattle.std.specs.Prelude.{◌≡◌, ℕ, ◌<◌, true, false, cond, ◌&&◌, ◌||◌, List, length, Some, None, Ok, Option, nat_lt, slice_index_or, slice_set}
 use Rattle.facts.specs.declared.fact_types.Fact.{Fact}
 use Rattle.stores.specs.Lists.{has}
 use Rattle.stores.specs.Store.{labels, read}
 use Rattle.stores.specs.Piles.{sound_pair, sound, after_put, after_take}
-use Rattle.stores.specs.Table.{pairs_of, pile_of, distinct}
-use Rattle.stores.specs.declared.row_types.Row.{Row}
-use Rattle.stores.specs.declared.row_types.Row.TheVariants.{Free, Used}
+use Rattle.stores.specs.Table.{Row, pairs_of, pile_of, distinct}
 
 -- the fact of a row
 abbrev pub fact_in : Row → Option Fact
-fact_in Free = None
-fact_in (Used l f) = Some f
-
--- whether a row has a pair
-abbrev pub is_used : Row → Bool
-is_used Free = false
-is_used (Used l f) = true
+fact_in None = None
+fact_in (Some (l, f)) = Some f
 
 -- a row for a label: it holds what the table has under the label, which is nothing where the row is free; a pair written into
 -- it is put into the table; and freeing it takes the label out
 pub record RowAt (l : ℕ) (t : List Row) (i : ℕ) : Type 0 where
   pub within : i < length t
-  pub reads : fact_in (slice_index_or t i Free) ≡ read l (pairs_of t)
+  pub reads : fact_in (slice_index_or t i None) ≡ read l (pairs_of t)
   pub room : (has l (labels (pairs_of t)) || nat_lt (length (pairs_of t)) (length t)) ≡ true
-  pub puts : (f : Fact) → pile_of (slice_set t i (Used l f)) ≡ after_put l f (pile_of t) (Ok tt)
-  pub puts_apart : (f : Fact) → distinct (slice_set t i (Used l f)) ≡ true
-  pub puts_sound : (f : Fact) → sound_pair (l, f) ≡ true → sound (pile_of (slice_set t i (Used l f))) ≡ true
-  pub takes : pile_of (slice_set t i Free) ≡ after_take l (pile_of t)
-  pub takes_apart : distinct (slice_set t i Free) ≡ true
-  pub takes_sound : sound (pile_of (slice_set t i Free)) ≡ true
+  pub puts : (f : Fact) → pile_of (slice_set t i (Some (l, f))) ≡ after_put l f (pile_of t) (Ok tt)
+  pub puts_apart : (f : Fact) → distinct (slice_set t i (Some (l, f))) ≡ true
+  pub puts_sound : (f : Fact) → sound_pair (l, f) ≡ true → sound (pile_of (slice_set t i (Some (l, f)))) ≡ true
+  pub takes : pile_of (slice_set t i None) ≡ after_take l (pile_of t)
+  pub takes_apart : distinct (slice_set t i None) ≡ true
+  pub takes_sound : sound (pile_of (slice_set t i None)) ≡ true
 
 -- no row for a label: it is not in the table, and every row is used
 pub record NoRow (l : ℕ) (t : List Row) : Type 0 where

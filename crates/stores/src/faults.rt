@@ -9,11 +9,7 @@ impl StoreFault {
     pub fn number(self) -> u8
         ensures { result ≡ store_fault_number self }
     {
-        match self {
-            StoreFault::Kind => 1,
-            StoreFault::Label => 12,
-            StoreFault::Full => 10,
-        }
+        self as u8
     }
 }
 
@@ -21,8 +17,6 @@ impl TableFault {
     pub fn number(self) -> u8
         ensures { result ≡ table_fault_number self }
     {
-        match self {
-            TableFault::Size => 15,
-        }
+        self as u8
     }
 }

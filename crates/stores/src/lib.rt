@@ -12,8 +12,8 @@ mod stored_map;
 
 pub use fault_types::{StoreFault, TableFault};
 pub use row_types::Row;
-pub use rows_making::ROWS;
-pub use rows_store::LABELS;
+pub use rows_making::{ROWS, check_rows};
+pub use rows_store::{LABELS, is_asked_for};
 pub use rows_type::Rows;
 pub use store_trait::Store;
 pub use stored_map::{put_and_read, take_and_read, visit};

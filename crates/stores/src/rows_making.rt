@@ -10,15 +10,22 @@ use crate::rows_type::Rows;
 /// The most rows that a store can have.
 pub const ROWS: usize = 1_024;
 
+/// Whether a table of so many rows can be a store: 15 where it has no row, or more than 1,024.
+pub fn check_rows(rows: usize) -> Result<(), TableFault>
+    ensures { result ≡ table_answer rows }
+{
+    if rows == 0 || rows > ROWS {
+        return Err(TableFault::Size);
+    }
+    Ok(())
+}
+
 impl<'a> Rows<'a> {
     /// Whether the table can be a store: 15 where it has no row, or more than 1,024.
     pub fn check(table: &[Row]) -> Result<(), TableFault>
         ensures { result ≡ table_answer (length table.now) }
     {
-        if table.len() == 0 || table.len() > ROWS {
-            return Err(TableFault::Size);
-        }
-        Ok(())
+        check_rows(table.len())
     }
 
     /// An empty store over the table, whose rows are freed.
@@ -26,16 +33,7 @@ impl<'a> Rows<'a> {
         requires { table_answer (length table.old) ≡ Ok tt }
         ensures { pile_of result.table.now ≡ empty_pile (length table.old) }
     {
-        free_all(table);
+        table.fill(None);
         Rows { table }
-    }
-}
-
-fn free_all(table: &mut [Row])
-    ensures empty { pile_of table.new ≡ empty_pile (length table.old) }
-    ensures apart { distinct table.new ≡ true }
-{
-    for row in table.iter_mut() {
-        *row = Row::Free;
     }
 }

@@ -2,10 +2,9 @@
 ghost use Rattle.std.specs.Prelude.{◌≡◌};
 ghost use Rattle.stores.specs.Store.{of_kind_with};
 ghost use Rattle.stores.specs.Table.{pile_of};
-ghost use Rattle.stores.specs.Scans.{fact_in, is_used, lesser_above, RowFor};
+ghost use Rattle.stores.specs.Scans.{lesser_above, RowFor};
 
 use crate::fault_types::StoreFault;
-use crate::row_types::Row;
 use crate::rows_type::Rows;
 use crate::store_trait::Store;
 use facts::{Fact, KINDS};
@@ -13,26 +12,8 @@ use facts::{Fact, KINDS};
 /// The last label: a label is a number from 1 to this one.
 pub const LABELS: u32 = 1_000_000;
 
-fn fact_in(row: Row) -> Option<Fact>
-    ensures { result ≡ fact_in row }
-{
-    match row {
-        Row::Free => None,
-        Row::Used(_, fact) => Some(fact),
-    }
-}
-
-fn is_used(row: &Row) -> bool
-    ensures { result ≡ is_used row.now }
-{
-    match row {
-        Row::Free => false,
-        Row::Used(_, _) => true,
-    }
-}
-
 /// Whether the fact has the first word and the kind.
-fn is_asked_for(fact: &Fact, kind: u8, word: i64) -> bool
+pub fn is_asked_for(fact: &Fact, kind: u8, word: i64) -> bool
     ensures { result ≡ of_kind_with kind word fact.now }
 {
     fact.words[0] == word && fact.kind == kind
@@ -45,26 +26,22 @@ fn lesser(above: u32, best: Option<u32>, label: u32) -> Option<u32>
     if label <= above {
         return best;
     }
-    match best {
-        Some(least) if least <= label => best,
-        _ => Some(label),
-    }
+    Some(best.map_or(label, |least| least.min(label)))
 }
 
 impl Rows<'_> {
     /// The row that has the label, else a free one, or none.
+    // Not inlined: as one loop it costs less than where each caller has its own.
+    #[inline(never)]
     fn row_for(&self, label: u32) -> Option<usize>
         ensures { RowFor label self.now.table.now result }
     {
         let mut free = None;
         for (i, row) in self.table.iter().enumerate() {
             match row {
-                Row::Free => free = Some(i),
-                Row::Used(held, _) => {
-                    if *held == label {
-                        return Some(i);
-                    }
-                }
+                None => free = Some(i),
+                Some((held, _)) if *held == label => return Some(i),
+                Some(_) => {}
             }
         }
         free
@@ -81,44 +58,42 @@ impl Store for Rows<'_> {
     }
 
     fn count(&self) -> usize {
-        let mut used = 0;
-        for row in self.table.iter() {
-            if is_used(row) {
-                used += 1;
-            }
-        }
-        used
+        self.table.iter().filter(|row| row.is_some()).count()
     }
 
     fn read(&self, label: u32) -> Option<Fact> {
         let i = self.row_for(label)?;
-        fact_in(self.table[i])
+        let (_, fact) = self.table[i]?;
+        Some(fact)
     }
 
+    // Not a chain that ends in `min`: its proof did not close at `returns`, that the least label that passes is `next_of` of the pairs.
     fn next(&self, kind: u8, above: u32) -> Option<u32> {
         let mut best = None;
         for row in self.table.iter() {
-            if let Row::Used(label, fact) = row {
-                if fact.kind == kind {
-                    best = lesser(above, best, *label);
-                }
+            if let Some((label, fact)) = row
+                && fact.kind == kind
+            {
+                best = lesser(above, best, *label);
             }
         }
         best
     }
 
+    // A loop of its own, which reads the first word before the kind: one loop over a test would say of both a relation on its answers.
     fn next_with(&self, kind: u8, word: i64, above: u32) -> Option<u32> {
         let mut best = None;
         for row in self.table.iter() {
-            if let Row::Used(label, fact) = row {
-                if is_asked_for(fact, kind, word) {
-                    best = lesser(above, best, *label);
-                }
+            if let Some((label, fact)) = row
+                && is_asked_for(fact, kind, word)
+            {
+                best = lesser(above, best, *label);
             }
         }
         best
     }
 
+    // Kind and label are judged here and in `Chains`: what passes a call would be known only through its answer, and opened again.
     fn put(&mut self, label: u32, fact: Fact) -> Result<(), StoreFault> {
         if fact.kind >= KINDS {
             return Err(StoreFault::Kind);
@@ -129,15 +104,16 @@ impl Store for Rows<'_> {
         let Some(i) = self.row_for(label) else {
             return Err(StoreFault::Full);
         };
-        self.table[i] = Row::Used(label, fact);
+        self.table[i] = Some((label, fact));
         Ok(())
     }
 
     fn take(&mut self, label: u32) -> Option<Fact> {
         let i = self.row_for(label)?;
         let row = self.table[i];
-        self.table[i] = Row::Free;
-        fact_in(row)
+        self.table[i] = None;
+        let (_, fact) = row?;
+        Some(fact)
     }
 }
 
@@ -145,12 +121,13 @@ impl Store for Rows<'_> {
 mod tests {
     use super::*;
     use crate::fault_types::TableFault;
+    use crate::row_types::Row;
     use crate::stored_map::{put_and_read, take_and_read, visit};
 
     #[test]
     fn tables_of_no_row_and_of_one_too_many(rt: HostRuntime) {
         let none: [Row; 0] = [];
-        let many = [Row::Free; 1_025];
+        let many = [None; 1_025];
         assert!(rt; Rows::check(&none).is_err());
         assert!(rt; Rows::check(&many).is_err());
         assert_eq!(rt; TableFault::Size.number(), 15);
@@ -162,7 +139,7 @@ mod tests {
             kind: 2,
             words: [10, 20, 500],
         };
-        let mut table = [Row::Used(4, fact); 3];
+        let mut table = [Some((4, fact)); 3];
         let rows = Rows::new(&mut table);
         assert_eq!(rt; rows.count(), 0);
         assert_eq!(rt; rows.next(2, 0), None);
@@ -178,7 +155,7 @@ mod tests {
             kind: 1,
             words: [10, 0, 0],
         };
-        let mut table = [Row::Free; 4];
+        let mut table = [None; 4];
         let mut rows = Rows::new(&mut table);
         let mut labels = [7; 3];
         let (_, here, there) = put_and_read(&mut rows, 9, segment, 5);

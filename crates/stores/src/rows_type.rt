@@ -6,6 +6,7 @@ ghost use Rattle.stores.specs.Table.{pile_of, distinct};
 use crate::row_types::Row;
 
 /// A store that looks through the rows of a table, each of which has at most one pair.
+// The rows are looked through one by one, since the table is the caller's and nothing is allocated.
 #[derive(Drop)]
 pub struct Rows<'a> {
     pub(crate) table: &'a mut [Row],

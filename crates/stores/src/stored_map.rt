@@ -69,16 +69,14 @@ fn visit_above<S: Store>(store: &S, kind: u8, start: u32, labels: &mut [u32]) ->
     ensures visits { VisitsAll (map_of (S.Store.meaning store.now)) kind (labels_of kind (S.Store.meaning store.now).pairs) }
 {
     let mut above = start;
-    let mut count = 0;
-    while count < labels.len() {
+    for (count, place) in labels.iter_mut().enumerate() {
         let Some(label) = store.next(kind, above) else {
             return count;
         };
-        labels[count] = label;
+        *place = label;
         above = label;
-        count += 1;
     }
-    count
+    labels.len()
 }
 
 /// Writes the labels of a kind by rising number, as many as there is place for, and answers how many.

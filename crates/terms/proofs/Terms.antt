@@ -5,6 +5,9 @@ use Rattle.std.proofs.lemmas.Fmt.{digits_decimal, digits_value-decimal, length-d
 use Rattle.std.proofs.lemmas.Bool.{eqb-true, leb-true, le-leb, lt-leb, ne_eqb, and_parts}
 use Rattle.std.proofs.lemmas.List.{take_rest, take-append-drop, get_or-drop}
 use Rattle.std.proofs.lemmas.Bool.Decides.{nat_tests}
+use Rattle.std.proofs.lemmas.List.Sums.{prefix_len-le-length, fails_before_first, passes_at_first}
+use Rattle.std.specs.List.{position_or_len}
+use Rattle.std.specs.Prelude.{not}
 use Rattle.facts.specs.declared.fact_types.Operator.{Operator}
 use Rattle.facts.specs.declared.fact_types.Operator.TheVariants.{Plus, Minus, Meet}
 use Rattle.rules.specs.declared.rule_types.Operand.{Operand}
@@ -319,3 +322,26 @@ term-leads bs n l = rw (take_rest bs n) (go bs n l)
         let first : get_or (drop n bs) 0 0 ≡ get_or bs n 0 = get_or-drop n bs 0 0 ∙ ap (λ (k : ℕ). get_or bs k 0) (omega arith) in
         ap (λ (x : List ℕ). term (b ∷ x)) (sym (take-append-drop n bs))
         ∙ led-calm b (drop n bs) (calm-front bs n (λ k h. l.before (suc k) (omega arith) (omega arith))) (λ h. rw first (l.found (omega (arith, length-drop n bs))))
+
+-- the leading operand ends at the first operator behind the first byte
+leads-behind : (b : ℕ) (bs : List ℕ) → Leading (b ∷ bs) (1 + position_or_len is_operator bs)
+leads-behind b bs =
+    let within : position_or_len is_operator bs ≤ length bs = prefix_len-le-length (λ x. not (is_operator x)) bs in
+    let one : 1 + position_or_len is_operator bs ≡ suc (position_or_len is_operator bs) = omega arith in
+    subst (Leading (b ∷ bs)) (sym one)
+    (record {
+      within = omega arith;
+      some = λ _. omega arith;
+      before = before;
+      found = λ h. passes_at_first is_operator bs 0 (omega arith);
+    })
+  where
+    before : (k : ℕ) → 1 ≤ k → k < suc (position_or_len is_operator bs) → is_operator (get_or (b ∷ bs) k 0) ≡ false
+    before zero l h = absurd (omega arith)
+    before (suc k) l h = fails_before_first is_operator bs k 0 (omega arith)
+
+pub leads : (bs : List ℕ) (n : ℕ) → 1 ≤ length bs → n ≡ position_or_len is_operator (take (length bs - 1) (drop 1 bs)) → Leading bs (1 + n)
+leads [] n some h = absurd (omega arith)
+leads (b ∷ bs) n some h =
+    let same : n ≡ position_or_len is_operator bs = h ∙ ap (position_or_len is_operator) (take_rest (b ∷ bs) 1) in
+    subst (λ (k : ℕ). Leading (b ∷ bs) (1 + k)) (sym same) (leads-behind b bs)

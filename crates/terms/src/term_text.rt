@@ -1,5 +1,6 @@
 //! Operands, arguments and terms of a rule, from the content of a field.
-ghost use Rattle.std.specs.Prelude.{◌≡◌, true, Some};
+ghost use Rattle.std.specs.Prelude.{◌≡◌, ◌≤◌, length, true, Some};
+ghost use Rattle.std.specs.List.{position_or_len};
 ghost use Rattle.terms.specs.Terms.{operand, argument, operator, is_operator, Leading, led_by, term, OperandGrammar, ArgumentGrammar, TermGrammar};
 
 use crate::mark_type::Mark;
@@ -59,16 +60,22 @@ fn operator_of(byte: u8) -> Operator
     }
 }
 
+// How many bytes stand before the first operator.
+fn before_operator(bytes: &[u8]) -> usize
+    ensures within { result ≤ length bytes.now }
+    ensures counted { result ≡ position_or_len is_operator bytes.now }
+{
+    bytes.iter().take_while(|byte| !is_operator(**byte)).count()
+}
+
 // How many bytes the leading operand has: those before the first operator behind the first byte.
 fn leading_length(text: &[u8]) -> usize
     ensures { Leading text.now result }
 {
-    for i in 1..text.len() {
-        if is_operator(text[i]) {
-            return i;
-        }
+    match text {
+        [] => 0,
+        [_, behind @ ..] => 1 + before_operator(behind),
     }
-    text.len()
 }
 
 // The term of a leading operand and what stands behind it: nothing, or an operator and a second operand.
@@ -108,36 +115,35 @@ mod tests {
 
     #[test]
     fn operands_are_letters_words_and_numbers(rt: HostRuntime) {
-        assert!(rt; matches!(read_operand(b"H"), Some(Operand::Letter(7))));
-        assert!(rt; matches!(read_operand(b"Z"), Some(Operand::Taken(2))));
-        assert!(rt; matches!(read_operand(b"-12"), Some(Operand::Constant(-12))));
+        assert_eq!(rt; read_operand(b"H"), Some(Operand::Letter(7)));
+        assert_eq!(rt; read_operand(b"Z"), Some(Operand::Taken(2)));
+        assert_eq!(rt; read_operand(b"-12"), Some(Operand::Constant(-12)));
         assert!(rt; read_operand(b"I").is_none());
         assert!(rt; read_operand(b"AB").is_none());
     }
 
     #[test]
     fn a_star_is_an_argument_alone(rt: HostRuntime) {
-        assert!(rt; matches!(read_argument(b"*"), Some(Mark::Star)));
-        assert!(rt; matches!(read_argument(b"B"), Some(Mark::Operand(Operand::Letter(1)))));
+        assert_eq!(rt; read_argument(b"*"), Some(Mark::Star));
+        assert_eq!(rt;
+            read_argument(b"B"),
+            Some(Mark::Operand(Operand::Letter(1)))
+        );
         assert!(rt; read_argument(b"**").is_none());
         assert!(rt; read_argument(b"").is_none());
     }
 
     #[test]
     fn a_minus_in_front_is_a_sign(rt: HostRuntime) {
-        assert!(rt;
-            matches!(
-                read_term(b"5--3"),
-                Some(Term::Two(Operand::Constant(5), Operator::Minus, Operand::Constant(-3)))
-            )
+        assert_eq!(rt;
+            read_term(b"5--3"),
+            Some(Term::Two(Operand::Constant(5), Operator::Minus, Operand::Constant(-3)))
         );
-        assert!(rt;
-            matches!(
-                read_term(b"A&X"),
-                Some(Term::Two(Operand::Letter(0), Operator::Meet, Operand::Taken(0)))
-            )
+        assert_eq!(rt;
+            read_term(b"A&X"),
+            Some(Term::Two(Operand::Letter(0), Operator::Meet, Operand::Taken(0)))
         );
-        assert!(rt; matches!(read_term(b"-5"), Some(Term::One(Operand::Constant(-5)))));
+        assert_eq!(rt; read_term(b"-5"), Some(Term::One(Operand::Constant(-5))));
     }
 
     #[test]

@@ -4,15 +4,8 @@ use Rattle.stores.specs.Store.{facts}
 use Rattle.machine.specs.Fitting.{given}
 use Rattle.engine.specs.Letters.{setting_in}
 use Rattle.engine.specs.Searching.{pairs_at}
-use Rattle.engine.proofs.Bodies.{over-more, over_stop}
+use Rattle.engine.proofs.Bodies.{over-more}
 use Rattle.engine.proofs.body.give_over.Goals as goal
-
-pub returns-in-None : goal.returns-in-None
-returns-in-None g c =
-    let ps = (g.S.Store.meaning c.args.store.now).pairs in
-    let value = λ (f : Fact). given g.W.Words.system (setting_in c.args.letters.now) f.words c.args.template.now in
-    over_stop ps value c.args.labels.now c.loop-label.label-index 0 c.in-Some.taken c.args.body.now c.loop-label.body c.loop-label.body (map value (facts (pairs_at ps c.args.labels.now)))
-    c.loop-label.invariant.1 c.loop-label-test.true c.in-Some.ensures c.in-None.ensures
 
 pub loop-label-preserved : goal.loop-label-preserved
 loop-label-preserved g c =
@@ -20,6 +13,6 @@ loop-label-preserved g c =
     let value = λ (f : Fact). given g.W.Words.system (setting_in c.args.letters.now) f.words c.args.template.now in
     let n = ap (λ b. b.count) c.add.ensures in (
       omega (arith, n, c.loop-label.invariant.0),
-      over-more ps value c.args.labels.now c.loop-label.label-index 0 c.in-Some.taken c.in-Some-fill.fact c.args.body.now c.loop-label.body c.add.new.body (map value (facts (pairs_at ps c.args.labels.now)))
-          c.loop-label.invariant.1 c.loop-label-test.true c.in-Some.ensures c.in-Some-fill.ensures c.add.ensures,
+      over-more ps value c.args.labels.now c.loop-label.label-index 0 c.in_ok-taken.taken c.in_ok-fill.field-0 c.args.body.now c.loop-label.body c.add.new.body (map value (facts (pairs_at ps c.args.labels.now)))
+          c.loop-label.invariant.1 c.loop-label-test.true c.in_ok-taken.ensures c.in_ok-fill.ensures c.add.ensures,
     )

@@ -1,8 +1,8 @@
-use Rattle.std.proofs.Common.{◌≡◌, drop, suc}
+use Rattle.std.proofs.Common.{◌≡◌, ◌+◌, drop}
 use Rattle.machine.specs.Machine.{facts_verdict}
 use Rattle.engine.proofs.judging.judge_facts.Given as goal
 
-abbrev pub invariant-loop-fact : goal.invariant-loop-fact
-invariant-loop-fact g l =
+abbrev pub invariant-loop-place : goal.invariant-loop-place
+invariant-loop-place g l =
     let system = g.W.Words.system in
-    (l.number ≡ l.fact-index) × (facts_verdict system 1 l.facts ≡ facts_verdict system (suc l.fact-index) (drop l.fact-index l.facts))
+    facts_verdict system 1 l.facts ≡ facts_verdict system (l.place + 1) (drop l.place l.facts)

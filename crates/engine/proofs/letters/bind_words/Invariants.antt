@@ -1,7 +1,9 @@
-use Rattle.std.proofs.Common.{◌≡◌, drop}
+use Rattle.std.proofs.Common.{◌≡◌, length}
 use Rattle.engine.specs.Letters.{bind_words}
 use Rattle.engine.proofs.letters.bind_words.Given as goal
 
-abbrev pub invariant-loop-i : goal.invariant-loop-i
-invariant-loop-i l =
-    bind_words l.initial.letters l.args l.words ≡ bind_words l.letters (drop l.i l.args) (drop l.i l.words)
+abbrev pub invariant-loop-argument : goal.invariant-loop-argument
+invariant-loop-argument l =
+    let args = l.argument-iterator.a.rest.now in
+    let words = l.argument-iterator.b.rest.now in
+    (length args ≡ length words) × (bind_words l.initial.letters l.args l.words ≡ bind_words l.letters args words)

@@ -1,8 +1,10 @@
-use Rattle.std.proofs.Common.{◌≡◌, drop}
+use Rattle.std.proofs.Common.{◌≡◌, length}
 use Rattle.machine.specs.Fitting.{fits_words}
 use Rattle.engine.specs.Letters.{setting_in}
 use Rattle.engine.proofs.letters.fits_words.Given as goal
 
-abbrev pub invariant-loop-i : goal.invariant-loop-i
-invariant-loop-i l =
-    fits_words (setting_in l.letters) l.args l.words ≡ fits_words (setting_in l.letters) (drop l.i l.args) (drop l.i l.words)
+abbrev pub invariant-loop-argument : goal.invariant-loop-argument
+invariant-loop-argument l =
+    let args = l.argument-iterator.a.rest.now in
+    let words = l.argument-iterator.b.rest.now in
+    (length args ≡ length words) × (fits_words (setting_in l.letters) l.args l.words ≡ fits_words (setting_in l.letters) args words)

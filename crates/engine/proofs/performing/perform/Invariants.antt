@@ -1,10 +1,7 @@
-use Rattle.std.proofs.Common.{◌≡◌, ◌-◌, ◌≤◌, length, take, drop}
+use Rattle.std.proofs.Common.{◌≡◌, take, drop}
 use Rattle.engine.specs.Jobs.{state_of, frame_of}
 use Rattle.engine.specs.Acts.{with_acts, begun_with, replies_of}
 use Rattle.engine.proofs.performing.perform.Given as goal
-
-abbrev pub decreases-loop-done : goal.decreases-loop-done
-decreases-loop-done g l = length l.acts - l.done
 
 abbrev pub invariant-loop-done : goal.invariant-loop-done
 invariant-loop-done g l =
@@ -17,6 +14,4 @@ invariant-loop-done g l =
       list : l.list ≡ d.list;
       replies : take l.done l.replies ≡ replies_of d;
       rest : drop l.done l.replies ≡ drop l.done l.initial.replies;
-      done_acts : l.done ≤ length l.acts;
-      done_replies : l.done ≤ length l.replies;
     }

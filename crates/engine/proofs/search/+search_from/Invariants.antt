@@ -4,7 +4,7 @@ use Rattle.engine.specs.Searching.{found_from, found_above}
 use Rattle.engine.proofs.search.+search_from.Given as goal
 
 abbrev pub decreases-search_from : goal.decreases-search_from
-decreases-search_from g l = l.rule.now.single_count - l.at
+decreases-search_from g l = l.rule.now.singles.count - l.at
 
 abbrev pub invariant-loop-label : goal.invariant-loop-label
 invariant-loop-label g l =

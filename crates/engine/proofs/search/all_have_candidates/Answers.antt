@@ -1,4 +1,4 @@
-use Rattle.std.proofs.Common.{◌≤◌, length, take, arith}
+use Rattle.std.proofs.Common.{take}
 use Rattle.engine.specs.Searching.{candidates_stand}
 use Rattle.engine.proofs.SearchCalls.{stand-here, stand-other}
 use Rattle.engine.proofs.search.all_have_candidates.Goals as goal
@@ -7,14 +7,13 @@ use Rattle.engine.proofs.search.all_have_candidates.Goals.{else-at-place-via-the
 pub loop-at-preserved : goal.loop-at-preserved
 loop-at-preserved g c =
     let ps = (g.S.Store.meaning c.args.store.now).pairs in
-    let r = c.args.rule.now in
+    let heads = c.as_slice-head-items.result.now in
     let l = c.args.letters.now in
-    let all = candidates_stand ps l c.args.place 0 (take r.single_count r.singles) in
-    let few : c.args.rule.now.single_count ≤ length c.args.rule.now.singles = omega arith in
+    let all = candidates_stand ps l c.args.place 0 heads in
     elim c.else-at-place.branch [
       | else-at-place-via-then-at-place+else-is_none w ↦
-          stand-other ps l c.args.place r.single_count r.singles c.loop-at.at c.loop-at-test.true few all c.loop-at.invariant
+          stand-other ps l c.args.place heads c.loop-at.at c.loop-at-test.true all c.loop-at.invariant
           w.next_candidate.result w.next_candidate.ensures w.if-is_none.ensures
       | else-at-place-via-else-at-place w ↦
-          stand-here ps l c.args.place r.single_count r.singles c.loop-at.at c.loop-at-test.true few all c.loop-at.invariant w.if-at-place.false
+          stand-here ps l c.args.place heads c.loop-at.at c.loop-at-test.true all c.loop-at.invariant w.if-at-place.false
     ]

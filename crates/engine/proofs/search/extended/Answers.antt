@@ -1,4 +1,4 @@
-use Rattle.std.proofs.Common.{◌≡◌, ◌-◌, length, take, false, ap, ◌∙◌, arith, rules}
+use Rattle.std.proofs.Common.{◌≡◌, ◌-◌, length, take, false, ap, ◌∙◌, sym, arith, rules}
 use Rattle.stores.specs.Lists.{has}
 use Rattle.engine.specs.Searching.{extended}
 use Rattle.engine.proofs.SearchCalls.{extended-some, longer}
@@ -12,7 +12,7 @@ returns g c =
     let n : c.args.at - 0 ≡ c.args.at = omega arith in
     let long : length c.args.choice.now.labels ≡ 4 = search rules in
     let new : false ≡ has c.args.label ls = c.if-is_among.ensures ∙ ap (λ k. has c.args.label (take k c.args.choice.now.labels)) n in
-    longer (extended ps c.args.pattern.now c.args.active ls old.letters c.args.label) old c.args.at c.args.label c.bind_fact.new.letters
-    (extended-some ps c.args.pattern.now c.args.active ls old.letters c.args.label c.in_ok-fact.fact c.bind_fact.new.letters c.bind_fact.result
-    c.if-label-active.false new c.in_ok-fact.ensures c.bind_fact.ensures c.if-not-bind_fact.false)
+    longer (extended ps c.args.pattern.now c.args.active ls old.letters c.args.label) old c.args.at c.args.label c.in_ok-letters.letters
+    (extended-some ps c.args.pattern.now c.args.active ls old.letters c.args.label c.in_ok-fact.fact c.in_ok-letters.letters
+    c.if-label-active.false new c.in_ok-fact.ensures (sym c.bind_fact.ensures ∙ c.in_ok-letters.was))
     c.requires long

@@ -5,4 +5,4 @@ use Rattle.facts_file.proofs.fact_rows.read_words.Given as goal
 
 abbrev pub invariant-loop-i : goal.invariant-loop-i
 invariant-loop-i g l =
-    (length l.words ≡ 3) × (words_at g.W.Words.system.valid l.row 2 3 l.bytes ≡ prefixed (take l.i l.words) (words_at g.W.Words.system.valid l.row (l.i + 2) (3 - l.i) l.rest))
+    (length l.slot-items ≡ 3) × (words_at g.W.Words.system.valid l.row 2 3 l.bytes ≡ prefixed (take l.i l.slot-items) (words_at g.W.Words.system.valid l.row (l.i + 2) (3 - l.i) l.rest))

@@ -1,29 +1,29 @@
 use Rattle.std.proofs.Common.{◌+◌, [], get_or, take, Ok, sym, refl, ap, ◌∙◌, subst, arith}
 use Rattle.std.proofs.lemmas.List.{length-set, take_more_set, take_all}
 use Rattle.std.proofs.lemmas.Result.{err_from_is_err_and}
-use Rattle.rows.specs.Fields.{field_seen, place_of, text_of}
 use Rattle.rules_file.specs.RuleRefusals.{row_refusal}
 use Rattle.terms.specs.Terms.{term}
 use Rattle.rules_file.specs.RuleRows.{passing, words_from}
-use Rattle.reader.specs.RuleScan.{cells, row_of}
+use Rattle.reader.specs.RuleScan.{cells}
+use Rattle.reader.proofs.RuleCells.{cells_six}
 use Rattle.reader.proofs.RuleLoops.{JudgedSoFar, judged-none, judged-more, judged_stops, judged-all, word_at, words_count, judged-here}
 use Rattle.reader.proofs.rule_parts.read_terms.Goals as goal
 
 pub loop-i-init : goal.loop-i-init
-loop-i-init g c = (refl, judged-none (row_of c.args.row.now) c.args.first term (passing (g.J.JudgesTerms.says c.args.rule.now c.args.taken)) (words_from c.args.first (cells c.args.row.now)))
+loop-i-init g c = (refl, judged-none c.args.row.now.row c.args.first term (passing (g.J.JudgesTerms.says c.args.rule.now c.args.taken)) (words_from c.args.first (cells c.args.row.now)))
 
-pub returns-in_err-terms : goal.returns-in_err-terms
-returns-in_err-terms g c =
+pub returns-in_err-term : goal.returns-in_err-term
+returns-in_err-term g c =
     let p = err_from_is_err_and c.from_residual.result c.from_residual.ensures.1 in
-    rw (p.1, p.2) (judged_stops (row_of c.args.row.now) c.args.first term (passing (g.J.JudgesTerms.says c.args.rule.now c.args.taken)) (words_from c.args.first (cells c.args.row.now)) c.loop-i.i (take c.loop-i.i c.loop-i.terms) (omega (arith, words_count c.args.first (cells c.args.row.now) (omega arith) (omega arith))) c.loop-i.invariant.1 (row_refusal c.in_err-terms.field-0.0) (judged-here term (passing (g.J.JudgesTerms.says c.args.rule.now c.args.taken)) _ (place_of (field_seen c.field.result)) (text_of (field_seen c.field.result)) (get_or (words_from c.args.first (cells c.args.row.now)) c.loop-i.i []) (row_of c.args.row.now) (c.args.first + c.loop-i.i) c.field.ensures.place (c.field.ensures.text ∙ word_at c.args.first c.loop-i.i (cells c.args.row.now) (omega arith) (omega arith)) c.in_err-terms.ensures))
+    rw (p.1, p.2) (judged_stops c.args.row.now.row c.args.first term (passing (g.J.JudgesTerms.says c.args.rule.now c.args.taken)) (words_from c.args.first (cells c.args.row.now)) c.loop-i.i (take c.loop-i.i c.loop-i.term-items) (omega (arith, words_count c.args.first (cells c.args.row.now) (omega arith) (omega (arith, cells_six c.args.row.now)))) c.loop-i.invariant.1 (row_refusal c.in_err-term.field-0.0) (judged-here term (passing (g.J.JudgesTerms.says c.args.rule.now c.args.taken)) _ c.cell.result.place c.cell.result.text.now (get_or (words_from c.args.first (cells c.args.row.now)) c.loop-i.i []) c.args.row.now.row (c.args.first + c.loop-i.i) c.cell.ensures.place (c.cell.ensures.text ∙ word_at c.args.first c.loop-i.i (cells c.args.row.now) (omega arith) (omega arith)) c.in_err-term.ensures))
 
 pub loop-i-preserved : goal.loop-i-preserved
 loop-i-preserved g c =
-    let more = judged-more (row_of c.args.row.now) c.args.first term (passing (g.J.JudgesTerms.says c.args.rule.now c.args.taken)) (words_from c.args.first (cells c.args.row.now)) c.loop-i.i (take c.loop-i.i c.loop-i.terms) (omega (arith, words_count c.args.first (cells c.args.row.now) (omega arith) (omega arith))) c.loop-i.invariant.1 c.in_ok-terms.field-0 (judged-here term (passing (g.J.JudgesTerms.says c.args.rule.now c.args.taken)) _ (place_of (field_seen c.field.result)) (text_of (field_seen c.field.result)) (get_or (words_from c.args.first (cells c.args.row.now)) c.loop-i.i []) (row_of c.args.row.now) (c.args.first + c.loop-i.i) c.field.ensures.place (c.field.ensures.text ∙ word_at c.args.first c.loop-i.i (cells c.args.row.now) (omega arith) (omega arith)) c.in_ok-terms.ensures) in
-    let front = take_more_set c.loop-i.terms c.loop-i.i c.in_ok-terms.field-0 (omega (arith, c.loop-i.invariant.0)) in
-    (length-set c.loop-i.terms c.loop-i.i c.in_ok-terms.field-0 ∙ c.loop-i.invariant.0, subst (JudgedSoFar (row_of c.args.row.now) c.args.first term (passing (g.J.JudgesTerms.says c.args.rule.now c.args.taken)) (words_from c.args.first (cells c.args.row.now)) (c.loop-i.i + 1)) (sym front) more)
+    let more = judged-more c.args.row.now.row c.args.first term (passing (g.J.JudgesTerms.says c.args.rule.now c.args.taken)) (words_from c.args.first (cells c.args.row.now)) c.loop-i.i (take c.loop-i.i c.loop-i.term-items) (omega (arith, words_count c.args.first (cells c.args.row.now) (omega arith) (omega (arith, cells_six c.args.row.now)))) c.loop-i.invariant.1 c.in_ok-term.field-0 (judged-here term (passing (g.J.JudgesTerms.says c.args.rule.now c.args.taken)) _ c.cell.result.place c.cell.result.text.now (get_or (words_from c.args.first (cells c.args.row.now)) c.loop-i.i []) c.args.row.now.row (c.args.first + c.loop-i.i) c.cell.ensures.place (c.cell.ensures.text ∙ word_at c.args.first c.loop-i.i (cells c.args.row.now) (omega arith) (omega arith)) c.in_ok-term.ensures) in
+    let front = take_more_set c.loop-i.term-items c.loop-i.i c.in_ok-term.field-0 (omega (arith, c.loop-i.invariant.0)) in
+    (length-set c.loop-i.term-items c.loop-i.i c.in_ok-term.field-0 ∙ c.loop-i.invariant.0, subst (JudgedSoFar c.args.row.now.row c.args.first term (passing (g.J.JudgesTerms.says c.args.rule.now c.args.taken)) (words_from c.args.first (cells c.args.row.now)) (c.loop-i.i + 1)) (sym front) more)
 
 pub returns : goal.returns
 returns g c =
-    let all = take_all c.loop-i.i c.loop-i.terms (omega (arith, c.loop-i.invariant.0)) in
-    ap (λ x. Ok x) (sym all) ∙ judged-all (row_of c.args.row.now) c.args.first term (passing (g.J.JudgesTerms.says c.args.rule.now c.args.taken)) (words_from c.args.first (cells c.args.row.now)) c.loop-i.i (take c.loop-i.i c.loop-i.terms) (omega (arith, words_count c.args.first (cells c.args.row.now) (omega arith) (omega arith))) c.loop-i.invariant.1
+    let all = take_all c.loop-i.i c.loop-i.term-items (omega (arith, c.loop-i.invariant.0)) in
+    ap (λ x. Ok x) (sym all) ∙ judged-all c.args.row.now.row c.args.first term (passing (g.J.JudgesTerms.says c.args.rule.now c.args.taken)) (words_from c.args.first (cells c.args.row.now)) c.loop-i.i (take c.loop-i.i c.loop-i.term-items) (omega (arith, words_count c.args.first (cells c.args.row.now) (omega arith) (omega (arith, cells_six c.args.row.now)))) c.loop-i.invariant.1

@@ -1,24 +1,27 @@
-use Rattle.std.proofs.Common.{Err, ap, arith}
+use Rattle.std.proofs.Common.{Err}
 use Rattle.std.specs.Option.{option_map}
 use Rattle.std.proofs.lemmas.Result.{err_from_is_err_and}
 use Rattle.rules_file.specs.RuleRefusals.{row_refusal}
 use Rattle.rules_file.proofs.NamedRules.{rules-named}
 use Rattle.rules_file.proofs.RulesWritten.{rules_loaded}
+use Rattle.rows.proofs.Outcomes.{bytes-there}
 use Rattle.reader.proofs.RuleLoads.{short-rules}
 use Rattle.reader.proofs.rule_rows.load_rules.Goals as goal
 
 pub returns-in_err-load_rows : goal.returns-in_err-load_rows
 returns-in_err-load_rows g c =
-    let p = err_from_is_err_and c.from_residual.result c.from_residual.ensures.1 in
+    let p = err_from_is_err_and c.from_residual-in_err-load_rows.result c.from_residual-in_err-load_rows.ensures.1 in
     let valid = g.W.Words.system.valid in
     let file = option_map (λ x. x.now) c.args.file in
     let refused = row_refusal c.in_err-load_rows.field-0.0 in
-    let answer = short-rules valid file c.in-Some.bytes.now (Err refused) (ap (option_map (λ x. x.now)) c.in-Some.is) (omega arith) c.in_err-load_rows.ensures in
+    let there = bytes-there file c.in_ok-bytes.bytes.now c.in_ok-bytes.ensures in
+    let answer = short-rules valid file c.in_ok-bytes.bytes.now (Err refused) there.0 there.1 c.in_err-load_rows.ensures in
     rw (p.1, p.2) (record { answer = answer; named = rules-named valid file (Err refused) answer; loaded = rules_loaded valid file (Err refused) answer })
 
 pub returns : goal.returns
 returns g c =
     let valid = g.W.Words.system.valid in
     let file = option_map (λ x. x.now) c.args.file in
-    let answer = short-rules valid file c.in-Some.bytes.now _ (ap (option_map (λ x. x.now)) c.in-Some.is) (omega arith) c.in_ok-load_rows.ensures in
+    let there = bytes-there file c.in_ok-bytes.bytes.now c.in_ok-bytes.ensures in
+    let answer = short-rules valid file c.in_ok-bytes.bytes.now _ there.0 there.1 c.in_ok-load_rows.ensures in
     record { answer = answer; named = tt; loaded = rules_loaded valid file _ answer }

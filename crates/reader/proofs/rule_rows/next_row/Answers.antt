@@ -1,10 +1,8 @@
 use Rattle.reader.proofs.RuleLoads.{six-none, six-made}
 use Rattle.reader.proofs.rule_rows.next_row.Goals as goal
 
-pub returns-in_default-read_cells : goal.returns-in_default-read_cells
-returns-in_default-read_cells c = absurd (six-none c.args.row c.args.bytes.now c.in-Some.count c.in-Some.rest.now c.in-Some.ensures.reads c.if-count-ne-WIDTH.false c.in_default-read_cells.ensures.cells)
+pub returns-in_err-cells : goal.returns-in_err-cells
+returns-in_err-cells c = absurd (six-none c.args.row c.args.bytes.now c.in_ok-rest.rest.now (rw c.in_ok-rest.ensures.ok_part at c.row_of_width.ensures) (rw c.in_err-cells.ensures.ok_part at c.read.ensures.cells))
 
 pub returns : goal.returns
-returns c =
-    let p = c.in-Some-read_cells.ensures.placed in
-    six-made c.args.row c.args.bytes.now c.in-Some.count c.in-Some.rest.now c.in-Some-read_cells.cells c.in-Some.ensures.reads c.if-count-ne-WIDTH.false c.in-Some-read_cells.ensures.cells p.0 p.1
+returns c = six-made c.args.row c.args.bytes.now c.in_ok-rest.rest.now (rw c.in_ok-rest.ensures.ok_part at c.row_of_width.ensures) c.in_ok-cells.cells (rw c.in_ok-cells.ensures.ok_part at c.read.ensures.cells) (rw c.in_ok-cells.ensures.ok_part at c.read.ensures.row)

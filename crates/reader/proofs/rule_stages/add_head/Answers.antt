@@ -1,7 +1,7 @@
 use Rattle.rules.specs.Sets.{head_draft}
 use Rattle.rules.specs.Writing.{add_head}
-use Rattle.rows.specs.Fields.{field_seen, text_of}
-use Rattle.reader.specs.RuleScan.{row_of}
+use Rattle.reader.specs.RuleScan.{cells}
+use Rattle.reader.proofs.RuleCells.{cells_six}
 use Rattle.reader.proofs.RuleSteps.{ComesTo}
 use Rattle.reader.proofs.RuleSteps.{head_done}
 use Rattle.reader.proofs.rule_stages.add_head.Goals as goal
@@ -11,6 +11,6 @@ returns g c =
     let to : ComesTo c.add.result c.whole-whole.result c.placed-2.result (add_head g.W.Words.system.valid c.in_ok-part.part (head_draft c.args.rule.now)) (head_draft c.args.rule.now) (head_draft c.add.new.self) =
     record { answer = c.add.ensures.added.answer; after_it = c.add.ensures.added.written; told = c.placed-2.ensures } in
     record {
-      draft = head_done g.W.Words.system.valid (row_of c.args.row.now) (head_draft c.args.rule.now) (head_draft c.add.new.self) (text_of (field_seen c.args.row.now.first)) (text_of (field_seen c.args.row.now.second)) (text_of (field_seen c.args.row.now.third)) (text_of (field_seen c.args.row.now.fourth)) (text_of (field_seen c.args.row.now.fifth)) (text_of (field_seen c.args.row.now.sixth)) c.whole-whole.result c.may_add.result c.add.result c.placed-2.result c.whole-whole.ensures c.in_ok-placed.ensures c.args.sort c.in_ok-part.part c.may_add.ensures c.in_ok-part.ensures to;
+      draft = head_done g.W.Words.system.valid c.args.row.now.row (head_draft c.args.rule.now) (head_draft c.add.new.self) (cells c.args.row.now) (cells_six c.args.row.now) c.whole-whole.result c.may_add.result c.add.result c.placed-2.result c.in_ok-placed.ensures c.args.sort c.in_ok-part.part c.may_add.ensures c.in_ok-part.ensures to;
       rules = c.add.ensures.added.before;
     }

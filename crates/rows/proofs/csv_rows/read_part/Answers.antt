@@ -2,7 +2,7 @@ use Rattle.std.proofs.Common.{◌≡◌, ◌+◌, ◌-◌, false, eqb, length, g
 use Rattle.std.proofs.lemmas.List.{get_or_past}
 use Rattle.std.proofs.lemmas.Bool.Decides.{nat_tests}
 use Rattle.rows.specs.Csv.{quote, read_bare, read_escaped}
-use Rattle.rows.proofs.Scans.{quoted-broken, quoted-got, bare-got, as_cut}
+use Rattle.rows.proofs.Scans.{quoted-broken, quoted-got, bare-got, as_cut, bare_prefix}
 use Rattle.rows.proofs.csv_rows.read_part.Goals as goal
 
 pub returns-in_err-end-in-34 : goal.returns-in_err-end-in-34
@@ -19,4 +19,4 @@ returns-in_default c =
     let bs = c.args.bytes.now in
     let past = get_or_past bs 0 0 in
     let plain : eqb (get_or bs 0 0) quote ≡ false = grind (arith, nat_tests, past) in
-    bare-got bs _ _ plain (as_cut (read_bare bs) bs c.bare_length-end.result c.bare_length-end.result c.bare_length-end.ensures.front)
+    bare-got bs _ _ plain (as_cut (read_bare bs) bs c.bare_length-end.result c.bare_length-end.result (rw c.bare_length-end.ensures.front (bare_prefix bs)))

@@ -1,7 +1,6 @@
-use Rattle.std.proofs.Common.{◌-◌, take}
 use Rattle.rules.specs.Rules.{any, is_letter}
 use Rattle.rules.proofs.Anys.{Left}
 use Rattle.rules.proofs.judging.is_bound.Given as goal
 
 abbrev pub invariant-loop-pattern : goal.invariant-loop-pattern
-invariant-loop-pattern l = Left (λ p. any (is_letter l.letter) p.args) (take (l.rule.single_count - 0) l.rule.singles) l.pattern-index
+invariant-loop-pattern l = Left (λ p. any (is_letter l.letter) p.args) l.pattern-items l.pattern-index

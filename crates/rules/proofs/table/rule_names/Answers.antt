@@ -1,18 +1,21 @@
-use Rattle.std.proofs.Common.{true, false, eqb, arith}
+use Rattle.std.proofs.Common.{eqb, sym, ap, ◌∙◌, arith}
 use Rattle.std.proofs.lemmas.Bool.{eq-eqb, ne_eqb}
-use Rattle.rules.specs.Rules.{rule_seen}
-use Rattle.rules.proofs.Anys.{left-more, left-found, left-all}
-use Rattle.rules.proofs.Heads.{all-test}
-use Rattle.rules.proofs.Records.{alls-count}
+use Rattle.rules.specs.Rules.{all_seen, any}
+use Rattle.rules.proofs.Anys.{left-more, left-found, left-all, any-map}
 use Rattle.rules.proofs.table.rule_names.Goals as goal
 
-pub returns-then-rule-i : goal.returns-then-rule-i
-returns-then-rule-i c =
-    left-found (λ a. eqb a.pattern.kind c.args.kind) (rule_seen c.args.rule.now).alls c.loop-i.i _ (omega (arith, alls-count c.args.rule.now c.requires)) (all-test c.args.rule.now c.args.kind c.loop-i.i _ true c.requires (omega arith) (eq-eqb _ c.args.kind c.if-rule-i.true)) c.loop-i.invariant
+pub returns-then-all-kind : goal.returns-then-all-kind
+returns-then-all-kind c =
+    left-found (λ a. eqb a.pattern.kind c.args.kind) c.as_slice-all-items.result.now c.loop-all.all-index c.all-item.result (omega arith) (ap (λ a. eqb a.pattern.kind c.args.kind) (sym c.all-item.is) ∙ eq-eqb c.all-item.result.pattern.kind c.args.kind c.if-all-kind.true) c.loop-all.invariant
+    ∙ ap (any (λ a. eqb a.pattern.kind c.args.kind)) c.as_slice-all-items.ensures.items
+    ∙ sym (any-map (λ a. eqb a.pattern.kind c.args.kind) all_seen _)
 
-pub loop-i-preserved : goal.loop-i-preserved
-loop-i-preserved c =
-    left-more (λ a. eqb a.pattern.kind c.args.kind) (rule_seen c.args.rule.now).alls c.loop-i.i _ (omega (arith, alls-count c.args.rule.now c.requires)) (all-test c.args.rule.now c.args.kind c.loop-i.i _ false c.requires (omega arith) (ne_eqb _ c.args.kind c.if-rule-i.false)) c.loop-i.invariant
+pub loop-all-preserved : goal.loop-all-preserved
+loop-all-preserved c =
+    left-more (λ a. eqb a.pattern.kind c.args.kind) c.as_slice-all-items.result.now c.loop-all.all-index c.all-item.result (omega arith) (ap (λ a. eqb a.pattern.kind c.args.kind) (sym c.all-item.is) ∙ ne_eqb c.all-item.result.pattern.kind c.args.kind c.if-all-kind.false) c.loop-all.invariant
 
 pub returns : goal.returns
-returns c = left-all (λ a. eqb a.pattern.kind c.args.kind) (rule_seen c.args.rule.now).alls c.loop-i.i (omega (arith, alls-count c.args.rule.now c.requires)) c.loop-i.invariant
+returns c =
+    left-all (λ a. eqb a.pattern.kind c.args.kind) c.as_slice-all-items.result.now c.loop-all.all-index (omega arith) c.loop-all.invariant
+    ∙ ap (any (λ a. eqb a.pattern.kind c.args.kind)) c.as_slice-all-items.ensures.items
+    ∙ sym (any-map (λ a. eqb a.pattern.kind c.args.kind) all_seen _)

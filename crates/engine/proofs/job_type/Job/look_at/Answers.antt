@@ -1,4 +1,4 @@
-use Rattle.std.proofs.Common.{◌∙◌, sym, ap, []}
+use Rattle.std.proofs.Common.{◌∙◌, sym, ap, refl, []}
 use Rattle.machine.specs.Machine.{Outcome}
 use Rattle.engine.specs.Goals.{below}
 use Rattle.engine.specs.Jobs.{state_of}
@@ -8,9 +8,8 @@ use Rattle.engine.proofs.job_type.Job.look_at.Goals as goal
 pub returns-in-Some-clause-state : goal.returns-in-Some-clause-state
 returns-in-Some-clause-state g c =
     let meaning = g.S.Store.meaning in
-    let e = c.replace_top.ensures in
     let held = look_held c.args.label (below c.args.self.now.goals) (state_of meaning c.args.self.now) [] c.in-Some.field-0 (sym c.read.ensures ∙ c.in-Some.is) in
-    same_state _ _ _ _ _ _ (ap (λ s. (meaning s).pairs) e.store) e.next e.goals ∙ sym (ap (λ (o : Outcome). o.state) held)
+    same_state _ _ _ _ _ _ refl refl c.replace_top.ensures ∙ sym (ap (λ (o : Outcome). o.state) held)
 
 pub returns-in-Some-clause-answer : goal.returns-in-Some-clause-answer
 returns-in-Some-clause-answer g c =
@@ -19,10 +18,9 @@ returns-in-Some-clause-answer g c =
 pub returns-in-None-clause-state : goal.returns-in-None-clause-state
 returns-in-None-clause-state g c =
     let meaning = g.S.Store.meaning in
-    let e = c.drop_top.ensures in
     let gone = look_gone c.args.label (below c.args.self.now.goals) (state_of meaning c.args.self.now) [] (sym c.read.ensures ∙ c.in-None.is) in
-    same_state _ _ _ _ _ _ (ap (λ s. (meaning s).pairs) e.store) e.next e.goals ∙ sym (ap (λ (o : Outcome). o.state) gone)
+    same_state _ _ _ _ _ _ refl refl c.pop.ensures.rest ∙ sym (ap (λ (o : Outcome). o.state) gone)
 
 pub returns-in-None-clause-answer : goal.returns-in-None-clause-answer
 returns-in-None-clause-answer g c =
-    c.drop_top.ensures.answer ∙ sym (ap (λ (o : Outcome). o.answer) (look_gone c.args.label (below c.args.self.now.goals) (state_of g.S.Store.meaning c.args.self.now) [] (sym c.read.ensures ∙ c.in-None.is)))
+    sym (ap (λ (o : Outcome). o.answer) (look_gone c.args.label (below c.args.self.now.goals) (state_of g.S.Store.meaning c.args.self.now) [] (sym c.read.ensures ∙ c.in-None.is)))

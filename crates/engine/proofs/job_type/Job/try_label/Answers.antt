@@ -10,9 +10,8 @@ pub returns-in_default-clause-outcome : goal.returns-in_default-clause-outcome
 returns-in_default-clause-outcome g c =
     let meaning = g.S.Store.meaning in
     let was = c.args.self.now in
-    let e = c.drop_top.ensures in
     rw (try_gone (frame_of g.W.Words.system meaning was) c.args.label c.args.number (below was.goals) (state_of meaning was) c.args.list.now (sym c.read.ensures ∙ c.in_default.is))
-    (record { state = same_state _ _ _ _ _ _ (ap (λ s. (meaning s).pairs) e.store) e.next e.goals; answer = e.answer; list = refl })
+    (record { state = same_state _ _ _ _ _ _ refl refl c.pop.ensures.rest; answer = refl; list = refl })
 
 pub returns-clause-outcome : goal.returns-clause-outcome
 returns-clause-outcome g c =

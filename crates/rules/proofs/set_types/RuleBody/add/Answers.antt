@@ -6,9 +6,9 @@ use Rattle.rules.proofs.set_types.RuleBody.add.Goals as goal
 
 pub invariant_of-self : goal.invariant_of-self
 invariant_of-self g c =
-    let e = c.add_body.ensures in
+    let e = c.add.ensures in
     let old = c.args.self.now in
-    let new = c.add_body.new.self in
+    let new = c.add.new.self in
     record {
       room = omega (arith, e.same_len, old.room);
       stands = ap (stand every_word) e.before ∙ old.stands;
@@ -17,8 +17,8 @@ invariant_of-self g c =
 
 pub returns : goal.returns
 returns g c =
-    let e = c.add_body.ensures in
+    let e = c.add.ensures in
     record {
       added = e;
-      stands = body-accepted g.W.Words.system.valid g.W.Words.system.valid (λ z h. h) (draft c.args.self.now.table) (draft c.add_body.new.self) c.args.part e.written;
+      stands = body-accepted g.W.Words.system.valid g.W.Words.system.valid (λ z h. h) (draft c.args.self.now.table) (draft c.add.new.self) c.args.part e.written;
     }

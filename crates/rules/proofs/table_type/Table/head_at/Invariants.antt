@@ -1,7 +1,7 @@
-use Rattle.std.proofs.Common.{◌≡◌, ◌+◌, ◌*◌, ◌≤◌, suc, drop}
-use Rattle.rules.specs.Tables.{finished}
+use Rattle.std.proofs.Common.{◌≡◌, ◌+◌, ◌*◌, ◌≤◌, suc, drop, map}
+use Rattle.rules.specs.Rules.{rule_seen}
 use Rattle.rules.specs.Closed.{head_from}
 use Rattle.rules.proofs.table_type.Table.head_at.Given as goal
 
 abbrev pub invariant-loop-i : goal.invariant-loop-i
-invariant-loop-i l = (head_from 1 (finished l.self) l.number ≡ head_from (suc l.i) (drop l.i (finished l.self)) l.left) × (l.number ≤ l.left + 4 * l.i)
+invariant-loop-i l = (head_from 1 (map rule_seen l.rule-items) l.number ≡ head_from (suc l.i) (map rule_seen (drop l.i l.rule-items)) l.left) × (l.number ≤ l.left + 4 * l.i)

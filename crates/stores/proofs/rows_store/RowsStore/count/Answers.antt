@@ -1,22 +1,9 @@
-use Rattle.std.proofs.Common.{arith, rules}
-use Rattle.std.proofs.lemmas.List.{at_drop_more, at_drop_all}
-use Rattle.stores.specs.declared.row_types.Row.TheVariants.{Free}
-use Rattle.stores.proofs.Tables.{used_in, count-is, used-few}
+use Rattle.std.proofs.Common.{rules}
+use Rattle.stores.proofs.Tables.{used-is, count-is}
 use Rattle.stores.proofs.rows_store.RowsStore.count.Goals as goal
-
-pub overflow_add-used : goal.overflow_add-used
-overflow_add-used c =
-    let e = at_drop_more used_in c.args.self.now.table.now c.loop-row.row-index Free c.loop-row-test.true in
-    let u = used-few c.args.self.now.table.now in
-    search (rules, e, u)
-
-pub loop-row-preserved : goal.loop-row-preserved
-loop-row-preserved c =
-    let e = at_drop_more used_in c.args.self.now.table.now c.loop-row.row-index Free c.loop-row-test.true in
-    search (rules, e)
 
 pub returns : goal.returns
 returns c =
-    let e = at_drop_all used_in c.args.self.now.table.now c.loop-row.row-index c.loop-row-test.false in
+    let u = used-is c.args.self.now.table.now in
     let k = count-is c.args.self.now.table.now c.args.self.now.apart in
-    omega (arith, e, k, c.loop-row.invariant)
+    search (rules, u, k)

@@ -1,14 +1,13 @@
-use Rattle.std.proofs.Common.{arith}
+use Rattle.std.proofs.Common.{arith, None}
 use Rattle.std.proofs.lemmas.Bool.Decides.{nat_tests}
 use Rattle.std.proofs.lemmas.List.{at_drop_more, at_drop_all}
 use Rattle.stores.specs.Store.{of_kind}
-use Rattle.stores.specs.declared.row_types.Row.TheVariants.{Free}
 use Rattle.stores.proofs.Tables.{least_in, next-is}
 use Rattle.stores.proofs.rows_store.RowsStore.next.Goals as goal
 
 pub loop-row-preserved : goal.loop-row-preserved
 loop-row-preserved c =
-    let e = at_drop_more (least_in (of_kind c.args.kind) c.args.above) c.args.self.now.table.now c.loop-row.row-index Free c.loop-row-test.true in
+    let e = at_drop_more (least_in (of_kind c.args.kind) c.args.above) c.args.self.now.table.now c.loop-row.row-index None c.loop-row-test.true in
     grind (arith, nat_tests)
 
 pub returns : goal.returns

@@ -1,0 +1,57 @@
+//! What a list in an array answers, and how it grows and shrinks.
+ghost use Rattle.std.specs.Prelude.{◌≡◌, ◌≤◌, ◌∷◌, ◌++◌, [], length, true, nat_lt};
+ghost use Rattle.lists.specs.Held.{held};
+
+use crate::fixed_list_type::FixedList;
+
+impl<T: Copy, const N: usize> FixedList<T, N> {
+    /// A list without items. The blank stands in the places that are not used.
+    pub fn new(blank: T) -> FixedList<T, N>
+        ensures { held result ≡ [] }
+    {
+        FixedList {
+            items: [blank; N],
+            count: 0,
+        }
+    }
+
+    /// How many items the list has.
+    pub fn len(&self) -> usize
+        ensures count { result ≡ length (held self.now) }
+        ensures bound { result ≤ N }
+    {
+        self.as_slice().len()
+    }
+
+    /// The items.
+    pub fn as_slice(&self) -> &[T]
+        ensures items { result.now ≡ held self.now }
+        ensures bound { length result.now ≤ N }
+    {
+        let items = &self.items[..];
+        &items[0..self.count]
+    }
+
+    /// Whether there is room for one item more.
+    pub fn has_room(&self) -> bool
+        ensures { result ≡ nat_lt (length (held self.now)) N }
+    {
+        self.len() < N
+    }
+
+    /// One item more, behind the others.
+    pub fn push(&mut self, item: T)
+        requires { nat_lt (length (held self.old)) N ≡ true }
+        ensures { held self.new ≡ held self.old ++ (item ∷ []) }
+    {
+        self.items[self.count] = item;
+        self.count += 1;
+    }
+
+    /// All items go.
+    pub fn clear(&mut self)
+        ensures { held self.new ≡ [] }
+    {
+        self.count = 0;
+    }
+}

@@ -1,6 +1,0 @@
-use Rattle.std.proofs.Common.{◌≡◌, ◌++◌, take}
-use Rattle.printing.specs.Print.{line_text}
-use Rattle.printing.proofs.line_type.Line.push_text.Given as goal
-
-abbrev pub invariant-loop-byte : goal.invariant-loop-byte
-invariant-loop-byte l = line_text l.self ≡ line_text l.initial.self ++ take l.byte-index l.text

@@ -1,5 +1,0 @@
-use Rattle.rules.proofs.Tables.{draft-within}
-use Rattle.rules.proofs.table_type.Table.judge_all.Goals as goal
-
-pub judge_all-requires : goal.judge_all-requires
-judge_all-requires g c = draft-within c.args.self.now c.requires

@@ -1,5 +1,0 @@
-use Rattle.rules.proofs.Tables.{draft-within}
-use Rattle.rules.proofs.table_type.Table.judge_over.Goals as goal
-
-pub judge_over-requires : goal.judge_over-requires
-judge_over-requires c = draft-within c.args.self.now c.requires

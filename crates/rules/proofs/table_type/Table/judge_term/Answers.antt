@@ -1,5 +1,0 @@
-use Rattle.rules.proofs.Tables.{draft-within}
-use Rattle.rules.proofs.table_type.Table.judge_term.Goals as goal
-
-pub judge_term-requires : goal.judge_term-requires
-judge_term-requires g c = draft-within c.args.self.now c.requires
