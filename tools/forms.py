@@ -101,6 +101,17 @@ def point2(root):
                 yield path, start, f'fn {name} has the shape of ' + ', '.join(n for p, s, n in found if (p, s) != (path, start))
 
 
+def inside_of(lines, i):
+    """The lines that stand inside the block that line i opens."""
+    indent = len(lines[i]) - len(lines[i].lstrip())
+    inside = []
+    for after in lines[i + 1:]:
+        if after.strip() and len(after) - len(after.lstrip()) <= indent:
+            break
+        inside.append(after)
+    return inside
+
+
 def point3(root):
     for path, lines in sources(root):
         for i, line in enumerate(lines):
@@ -108,22 +119,10 @@ def point3(root):
             if found and found.group(1) != '_':
                 yield path, i + 1, line.strip()
             if re.match(r' +(while|loop)\b', line):
-                indent = len(line) - len(line.lstrip())
-                inside = []
-                for after in lines[i + 1:]:
-                    if after.strip() and len(after) - len(after.lstrip()) <= indent:
-                        break
-                    inside.append(after)
-                if any(re.search(r'\w+ \+= (1|more);', after) for after in inside):
+                if any(re.search(r'\w+ \+= (1|more);', after) for after in inside_of(lines, i)):
                     yield path, i + 1, line.strip()
             if re.match(r' +for \w+ in ', line) and '..' not in line:
-                indent = len(line) - len(line.lstrip())
-                inside = []
-                for after in lines[i + 1:]:
-                    if after.strip() and len(after) - len(after.lstrip()) <= indent:
-                        break
-                    inside.append(after)
-                if any(re.search(r'\w+ \+= 1;', after) for after in inside):
+                if any(re.search(r'\w+ \+= 1;', after) for after in inside_of(lines, i)):
                     yield path, i + 1, line.strip()
 
 
