@@ -1,4 +1,6 @@
 //! Runs the stored jobs, each over a store of rows and over chains.
+ghost use Rattle.std.specs.Prelude.{◌≤◌, IfOk};
+
 use chains::{Chains, FREE_ROW};
 use facts::{Fact, Lengths};
 use printing::{CAPACITY, NO_FACTS, Refused, check_facts, check_rules, print_job};
@@ -7,12 +9,14 @@ use rules::ClosedSet;
 use std::{fs, io};
 use stores::{Rows, Store};
 
-// The rules, and how many facts are in the table.
+// The rules, and how many facts are in the table. Not `read_job` of `runplan`, which opens the files and says why one is refused.
 fn load(
     rules: Option<&[u8]>,
     facts: Option<&[u8]>,
     table: &mut [Fact; MOST_FACTS],
-) -> Result<(ClosedSet<Lengths>, usize), Refused> {
+) -> Result<(ClosedSet<Lengths>, usize), Refused>
+    ensures { IfOk result (λ job. job.1 ≤ 512) }
+{
     let set = check_rules(rules)?;
     let count = check_facts(facts, table)?;
     Ok((set, count))
@@ -27,7 +31,7 @@ fn run_over<S: Store + Drop, R: Print>(
     let mut table = NO_FACTS;
     match load(rules, facts, &mut table) {
         Ok((set, count)) => {
-            let _ended = print_job(rt, set, store, &table[0..count.min(MOST_FACTS)])?;
+            let _ended = print_job(rt, set, store, &table[..count])?;
             Ok(())
         }
         Err(refused) => rt.write_all(refused.line.text()),

@@ -1,5 +1,5 @@
 -- Rows that numbers name, and the place of a label on a chain.
-use Rattle.std.proofs.Common.{◌≡◌, ℕ, zero, suc, ◌<◌, Bool, true, false, ◌||◌, eqb, List, [], ◌∷◌, length, get_or, set, Some, None, Option, sym, refl, ap, ◌∙◌, ⊎_elim, arith, length-set, get_or-set_other}
+use Rattle.std.proofs.Common.{◌≡◌, ℕ, zero, suc, ◌<◌, Bool, true, false, ◌||◌, eqb, List, [], ◌∷◌, length, get_or, set, Some, None, Option, sym, refl, ap, ◌∙◌, ◌⊎◌, inl, inr, ⊎_elim, arith, get_or-set_other}
 use Rattle.std.proofs.lemmas.Bool.{cases_eq, and_parts, false≢true}
 use Rattle.std.proofs.lemmas.Bool.Decides.{nat_tests}
 use Rattle.facts.specs.declared.fact_types.Fact.{Fact}
@@ -10,6 +10,11 @@ use Rattle.stores.specs.Table.{Row, pairs_of, pile_of, absent, distinct}
 use Rattle.stores.proofs.Pairs.{read-placed}
 use Rattle.chains.specs.Links.{next_in, has_label, points}
 use Rattle.chains.proofs.Nexts.{passes_at, beyond, at_most, is_it, next-passes, next-member}
+
+-- the label of a row, or 0
+abbrev pub label_in : Row → ℕ
+label_in None = 0
+label_in (Some (l, f)) = l
 
 -- equal rows have equal pairs
 abbrev or_blank : Pair → Row → Pair
@@ -58,37 +63,60 @@ one-row (Some (m, k) ∷ t) (suc i) (suc j) l f g d e h = ap suc (one-row t i j 
 
 -- what a number names -----------------------------------------------------------------------------------------
 
-pub points-one : (t : List Row) (i : ℕ) (o q : Option ℕ) → points t i o ≡ true → points t i q ≡ true → o ≡ q
+-- a link to a row, or to none
+pub named_or_none : (o : Option ℕ) → ((i : ℕ) × (o ≡ Some i)) ⊎ (o ≡ None)
+named_or_none None = inr refl
+named_or_none (Some i) = inl (i, refl)
+
+pub names_or_not : (o : Option ℕ) (i : ℕ) → (o ≡ Some i) ⊎ (o ≡ Some i → ⊥)
+names_or_not None i = inr (λ e. let z : ◌≡◌ {A = ℕ} 0 1 = cc in absurd (omega arith))
+names_or_not (Some k) i = ⊎_elim (λ q. inl (ap (λ (n : ℕ). Some n) q)) (λ q. inr (λ e. q (ap (or_number k) e))) (cases_eq k i)
+  where
+    or_number : ℕ → Option ℕ → ℕ
+    or_number n None = n
+    or_number n (Some m) = m
+
+pub named_as : (o : Option ℕ) (i j : ℕ) → o ≡ Some i → i ≡ j → o ≡ Some j
+named_as o i j e q = rw (← q) e
+
+pub points-within : (t : List Row) (i : ℕ) (o : Option ℕ) → points t (Some i) o ≡ true → i < length t
+points-within t i None p = absurd (false≢true p)
+points-within t i (Some n) p = go (get_or t i None) refl
+  where
+    go : (r : Row) → get_or t i None ≡ r → i < length t
+    go None e = let z : has_label n (get_or t i None) ≡ false = ap (has_label n) e in absurd (false≢true (sym z ∙ p))
+    go (Some (m, f)) e = used-within t i m f e
+
+pub points-one : (t : List Row) (i o q : Option ℕ) → points t i o ≡ true → points t i q ≡ true → o ≡ q
 points-one t i None None h k = refl
-points-one t i None (Some n) h k = go (get_or t i None) refl
-  where
-    go : (r : Row) → get_or t i None ≡ r → None ≡ Some n
-    go None e = let z : has_label n (get_or t i None) ≡ false = rw e refl in absurd (false≢true (sym z ∙ k))
-    go (Some (m, f)) e = let w = used-within t i m f e in grind (arith, nat_tests)
-points-one t i (Some m) None h k = go (get_or t i None) refl
-  where
-    go : (r : Row) → get_or t i None ≡ r → Some m ≡ None
-    go None e = let z : has_label m (get_or t i None) ≡ false = rw e refl in absurd (false≢true (sym z ∙ h))
-    go (Some (n, f)) e = let w = used-within t i n f e in grind (arith, nat_tests)
-points-one t i (Some m) (Some n) h k = go (get_or t i None) refl
+points-one t None None (Some n) h k = absurd (false≢true k)
+points-one t (Some i) None (Some n) h k = absurd (false≢true h)
+points-one t None (Some m) None h k = absurd (false≢true h)
+points-one t (Some i) (Some m) None h k = absurd (false≢true k)
+points-one t None (Some m) (Some n) h k = absurd (false≢true h)
+points-one t (Some i) (Some m) (Some n) h k = go (get_or t i None) refl
   where
     go : (r : Row) → get_or t i None ≡ r → Some m ≡ Some n
     go None e = let z : has_label m (get_or t i None) ≡ false = rw e refl in absurd (false≢true (sym z ∙ h))
     go (Some (l, f)) e = grind (arith, nat_tests)
 
 -- after a free row has got a pair
-pub points_fill : (t : List Row) (i l k : ℕ) (f : Fact) (o : Option ℕ) → get_or t i None ≡ None → points t k o ≡ true → points (set t i (Some (l, f))) k o ≡ true
-points_fill t i l k f None e h = let n = length-set t i (Some (l, f)) in grind (arith, nat_tests)
-points_fill t i l k f (Some m) e h =
+pub points_fill : (t : List Row) (i l : ℕ) (k : Option ℕ) (f : Fact) (o : Option ℕ) → get_or t i None ≡ None → points t k o ≡ true → points (set t i (Some (l, f))) k o ≡ true
+points_fill t i l None f None e h = h
+points_fill t i l None f (Some m) e h = h
+points_fill t i l (Some k) f None e h = h
+points_fill t i l (Some k) f (Some m) e h =
     ⊎_elim
     (λ q. let z : has_label m (get_or t k None) ≡ false = ap (λ x. has_label m (get_or t x None)) q ∙ ap (has_label m) e in absurd (false≢true (sym z ∙ h)))
     (λ q. rw (get_or-set_other t i k (Some (l, f)) None q) h)
     (cases_eq k i)
 
 -- after a row is freed whose label is not the one that is named
-pub points-free : (t : List Row) (i l k : ℕ) (f : Fact) (o : Option ℕ) → get_or t i None ≡ Some (l, f) → is_it l o ≡ false → points t k o ≡ true → points (set t i None) k o ≡ true
-points-free t i l k f None e n h = let s = length-set t i None in grind (arith, nat_tests)
-points-free t i l k f (Some m) e n h =
+pub points-free : (t : List Row) (i l : ℕ) (k : Option ℕ) (f : Fact) (o : Option ℕ) → get_or t i None ≡ Some (l, f) → is_it l o ≡ false → points t k o ≡ true → points (set t i None) k o ≡ true
+points-free t i l None f None e n h = h
+points-free t i l None f (Some m) e n h = h
+points-free t i l (Some k) f None e n h = h
+points-free t i l (Some k) f (Some m) e n h =
     ⊎_elim
     (λ q. let z : has_label m (get_or t k None) ≡ eqb l m = ap (λ x. has_label m (get_or t x None)) q ∙ ap (has_label m) e in grind (arith, nat_tests))
     (λ q. rw (get_or-set_other t i k None None q) h)

@@ -1,10 +1,12 @@
 -- A label's pair taken out before another is put.
-use Rattle.std.proofs.Common.{◌≡◌, ℕ, ◌<◌, ◌≤◌, true, not, eqb, List, [], ◌∷◌, length, is_some, None, Ok, Err, refl, sym, ap, ◌∙◌, arith}
+use Rattle.std.proofs.Common.{Result, Option, Some, ◌≡◌, ℕ, ◌<◌, ◌≤◌, true, not, eqb, List, [], ◌∷◌, length, is_some, None, Ok, Err, refl, sym, ap, ◌∙◌, arith}
 use Rattle.std.proofs.lemmas.Bool.Decides.{nat_tests}
 use Rattle.facts.specs.declared.fact_types.Fact.{Fact}
 use Rattle.stores.specs.Lists.{rises}
-use Rattle.stores.specs.Store.{Pair, label, labels, read, placed, taken_out, put_answer}
+use Rattle.stores.specs.Store.{Pair, label, labels, read, placed, taken_out, pair_answer, put_answer}
 use Rattle.stores.specs.Piles.{Pile, sound, after_put, after_take}
+use Rattle.std.specs.Option.{ok_or}
+use Rattle.stores.specs.declared.fault_types.StoreFault.{StoreFault}
 use Rattle.stores.specs.declared.fault_types.StoreFault.TheVariants.{Full}
 use Rattle.stores.proofs.Piles.{owed-rises}
 use Rattle.stores.proofs.Pairs.{has-read, all_above, above-less, read_above, taken-missing, placed_first, length-kept}
@@ -31,6 +33,18 @@ placed-gone l f (p ∷ ps) r =
 
 pub take-missing : (l : ℕ) (m : Pile) → read l m.pairs ≡ None → m ≡ after_take l m
 take-missing l m e = rw (taken-missing l m.pairs e) refl
+
+-- a pair that can be put
+pub pair-fits : (l : ℕ) (f : Fact) (r : Result (Unit {0}) StoreFault) (u : Unit {0}) → r ≡ pair_answer l f → r ≡ Ok u → (f.kind < 64) × (1 ≤ l) × (l ≤ 1000000)
+pair-fits l f r u e q = (grind (arith, nat_tests), grind (arith, nat_tests), grind (arith, nat_tests))
+
+pub none-first : (o : Option ℕ) (r : Result ℕ StoreFault) (e x : StoreFault) → r ≡ ok_or o e → r ≡ Err x → o ≡ None
+none-first None r e x q w = refl
+none-first (Some i) r e x q w = let z : ◌≡◌ {A = ℕ} 0 1 = cc in absurd (omega arith)
+
+pub some-first : (o : Option ℕ) (r : Result ℕ StoreFault) (e : StoreFault) (i : ℕ) → r ≡ ok_or o e → r ≡ Ok i → o ≡ Some i
+some-first None r e i q w = let z : ◌≡◌ {A = ℕ} 0 1 = cc in absurd (omega arith)
+some-first (Some j) r e i q w = cc
 
 -- a held label's fact is replaced
 pub held-answer : (l : ℕ) (f : Fact) (m : Pile) → f.kind < 64 → 1 ≤ l → l ≤ 1000000 → is_some (read l m.pairs) ≡ true → Ok tt ≡ put_answer m.capacity l f m.pairs

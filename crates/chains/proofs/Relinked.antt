@@ -2,7 +2,6 @@
 use Rattle.std.proofs.Common.{◌≡◌, ℕ, ◌-◌, ◌<◌, ◌≤◌, Bool, true, false, cond, ◌&&◌, eqb, ltb, leb, List, length, get_or, set, Some, None, Option, sym, refl, ap, subst, ◌∙◌, ⊎_elim, arith, length-set, get_or-set_other, get_or-set_same}
 use Rattle.std.proofs.lemmas.Bool.{cases_lt, cases_eq, eqb-true, eq-eqb, leb-true, lt-ltb, le-ltb, false≢true}
 use Rattle.std.proofs.lemmas.Bool.Decides.{nat_tests}
-use Rattle.std.proofs.lemmas.List.{get_or_past}
 use Rattle.facts.specs.declared.fact_types.Fact.{Fact}
 use Rattle.stores.specs.Lists.{rises}
 use Rattle.stores.specs.Store.{Pair, labels, read, placed, taken_out}
@@ -11,62 +10,58 @@ use Rattle.stores.specs.Table.{Row, pairs_of, pile_of, absent, distinct}
 use Rattle.stores.proofs.Pairs.{least}
 use Rattle.stores.proofs.Tables.{rises-pairs, absent-read, pairs-put, pairs-take}
 use Rattle.chains.specs.Links.{next_in, on_chain, points, Linked, up_to, Place}
-use Rattle.chains.specs.Acts.{label_in}
+use Rattle.chains.specs.Acts.{relinked, headed}
 use Rattle.chains.proofs.Nexts.{passes_at, beyond, at_most, is_it, next-passes, next-member, next-placed, next-taken}
-use Rattle.chains.proofs.Named.{one_pair, used-within, used-read, one-row, points-one, points_fill, points-free, holds, used-sound, not-place, same-place}
+use Rattle.chains.proofs.Named.{label_in, named_as, named_or_none, names_or_not, one_pair, used-within, used-read, one-row, points-one, points_fill, points-free, holds, used-sound, not-place, same-place}
+
+-- the label of the row that a link names, or 0
+abbrev pub label_at : List Row → Option ℕ → ℕ
+label_at R None = 0
+label_at R (Some i) = label_in (get_or R i None)
 
 -- where a place comes from: a row of the chain, or its head
-pub record Source (key : Pair → ℕ) (R : List Row) (L H : List ℕ) (b a before at m : ℕ) : Type 0 where
+pub record Source (key : Pair → ℕ) (R : List Row) (L H : List (Option ℕ)) (b a : ℕ) (before at : Option ℕ) (m : ℕ) : Type 0 where
   pub holder : holds (on_chain key b) m (pairs_of R) ≡ true
   pub below : m ≤ a
   pub same : next_in (on_chain key b) m (pairs_of R) ≡ next_in (on_chain key b) a (pairs_of R)
-  pub row : before < length R → (g : Fact) × (get_or R before None ≡ Some (m, g)) × (key (m, g) ≡ b) × (get_or L before 0 ≡ at) × (1 ≤ m)
-  pub head : length R ≤ before → (m ≡ 0) × (get_or H b 0 ≡ at)
+  pub row : (i : ℕ) → before ≡ Some i → (g : Fact) × (get_or R i None ≡ Some (m, g)) × (key (m, g) ≡ b) × (get_or L i None ≡ at) × (1 ≤ m)
+  pub head : before ≡ None → (m ≡ 0) × (get_or H b None ≡ at)
 
-source-row : (key : Pair → ℕ) (R : List Row) (L H : List ℕ) (b a before at : ℕ) → distinct R ≡ true → sound (pile_of R) ≡ true → Linked key R L H → Place key R L H b a before at → before < length R → (r : Row) → get_or R before None ≡ r → Source key R L H b a before at (label_in r)
-source-row key R L H b a before at d o k p h None e =
-    let t = lt-ltb before (length R) h in
-    let z = p.from in
-    let y : up_to key b a (get_or R before None) ≡ false = ap (up_to key b a) e in
-    absurd (false≢true (grind (arith, nat_tests)))
-source-row key R L H b a before at d o k p h (Some (m, g)) e =
-    let t = lt-ltb before (length R) h in
-    let z = p.from in
-    let y : up_to key b a (get_or R before None) ≡ (eqb (key (m, g)) b && leb m a) = ap (up_to key b a) e in
+one_number : (i j : ℕ) → ◌≡◌ {A = Option ℕ} (Some i) (Some j) → i ≡ j
+one_number i j e = cc
+
+source-row : (key : Pair → ℕ) (R : List Row) (L H : List (Option ℕ)) (b a i : ℕ) (at : Option ℕ) → distinct R ≡ true → sound (pile_of R) ≡ true → Linked key R L H → Place key R L H b a (Some i) at → (r : Row) → get_or R i None ≡ r → Source key R L H b a (Some i) at (label_in r)
+source-row key R L H b a i at d o k p None e =
+    let y : up_to key b a (get_or R i None) ≡ false = ap (up_to key b a) e in
+    absurd (false≢true (sym y ∙ p.from.0))
+source-row key R L H b a i at d o k p (Some (m, g)) e =
+    let z = p.from.0 in
+    let y : up_to key b a (get_or R i None) ≡ (eqb (key (m, g)) b && leb m a) = ap (up_to key b a) e in
     let q : key (m, g) ≡ b = grind (arith, nat_tests) in
     let w : m ≤ a = grind (arith, nat_tests) in
-    let v : get_or L before 0 ≡ at = grind (arith, nat_tests) in
-    let s = used-sound R before m g d o e in
-    let r = used-read R before m g d e in
-    let l = k.later before m g e in
+    let v = p.from.1 in
+    let s = used-sound R i m g d o e in
+    let r = used-read R i m g d e in
+    let l = k.later i m g e in
     let one : 1 ≤ m = grind (arith, nat_tests) in
     record {
       holder = grind (arith, nat_tests);
       below = w;
-      same = points-one R at (next_in (on_chain key b) m (pairs_of R)) (next_in (on_chain key b) a (pairs_of R)) (subst (λ (n : ℕ). points R n (next_in (on_chain key b) m (pairs_of R)) ≡ true) v (subst (λ (c : ℕ). points R (get_or L before 0) (next_in (on_chain key c) m (pairs_of R)) ≡ true) q l)) p.next;
-      row = λ _. (g, e, q, v, one);
-      head = λ n. absurd (omega arith);
+      same = points-one R at (next_in (on_chain key b) m (pairs_of R)) (next_in (on_chain key b) a (pairs_of R)) (subst (λ (n : Option ℕ). points R n (next_in (on_chain key b) m (pairs_of R)) ≡ true) v (subst (λ (c : ℕ). points R (get_or L i None) (next_in (on_chain key c) m (pairs_of R)) ≡ true) q l)) p.next;
+      row = λ j n. let x = one_number i j n in (g, rw (← x) e, q, rw (← x) v, one);
+      head = λ n. let x : ◌≡◌ {A = ℕ} 0 1 = cc in absurd (omega arith);
     }
 
-source-head : (key : Pair → ℕ) (R : List Row) (L H : List ℕ) (b a before at : ℕ) → Linked key R L H → Place key R L H b a before at → b < 64 → length R ≤ before → Source key R L H b a before at 0
-source-head key R L H b a before at k p s h =
-    let t = le-ltb before (length R) h in
-    let z = p.from in
-    let v : get_or H b 0 ≡ at = grind (arith, nat_tests) in
+pub source : (key : Pair → ℕ) (R : List Row) (L H : List (Option ℕ)) (b a : ℕ) (before at : Option ℕ) → distinct R ≡ true → sound (pile_of R) ≡ true → Linked key R L H → Place key R L H b a before at → b < 64 → Source key R L H b a before at (label_at R before)
+source key R L H b a (Some i) at d o k p s = source-row key R L H b a i at d o k p (get_or R i None) refl
+source key R L H b a None at d o k p s =
     record {
       holder = refl;
       below = omega arith;
-      same = points-one R at (next_in (on_chain key b) 0 (pairs_of R)) (next_in (on_chain key b) a (pairs_of R)) (subst (λ (n : ℕ). points R n (next_in (on_chain key b) 0 (pairs_of R)) ≡ true) v (k.first b s)) p.next;
-      row = λ n. absurd (omega arith);
-      head = λ _. (refl, v);
+      same = points-one R at (next_in (on_chain key b) 0 (pairs_of R)) (next_in (on_chain key b) a (pairs_of R)) (subst (λ (n : Option ℕ). points R n (next_in (on_chain key b) 0 (pairs_of R)) ≡ true) p.from (k.first b s)) p.next;
+      row = λ j n. let x : ◌≡◌ {A = ℕ} 0 1 = cc in absurd (omega arith);
+      head = λ _. (refl, p.from);
     }
-
-pub source : (key : Pair → ℕ) (R : List Row) (L H : List ℕ) (b a before at : ℕ) → distinct R ≡ true → sound (pile_of R) ≡ true → Linked key R L H → Place key R L H b a before at → b < 64 → Source key R L H b a before at (label_in (get_or R before None))
-source key R L H b a before at d o k p s =
-    ⊎_elim
-    (λ h. source-row key R L H b a before at d o k p h (get_or R before None) refl)
-    (λ h. subst (λ (r : Row). Source key R L H b a before at (label_in r)) (sym (get_or_past R before None h)) (source-head key R L H b a before at k p s h))
-    (cases_lt before (length R))
 
 -- a row put on its chain -----------------------------------------------------------------------------------------
 
@@ -156,37 +151,35 @@ freed-other key ps l m n c f r a h e k s = go (next_in (on_chain key c) m ps) re
             let u : c ≡ key (l, f) = sym (eqb-true (key (l, f)) c v) in
             s u (same-place (on_chain key (key (l, f))) l m n ps r (subst (λ (z : ℕ). holds (on_chain key z) m ps ≡ true) u k) h (subst (λ (z : ℕ). next_in (on_chain key z) m ps ≡ Some l) u p) e)
 
--- the heads afterwards: another one, where the link was the head
-abbrev pub headed : List Row → List ℕ → ℕ → ℕ → ℕ → List ℕ
-headed R H b before i = cond (ltb before (length R)) H (set H b i)
+-- the heads and the links afterwards
+headed-same : (H : List (Option ℕ)) (b i : ℕ) (before x : Option ℕ) → before ≡ Some i → headed before b x H ≡ H
+headed-same H b i before x e = rw e refl
 
-headed-same : (R : List Row) (H : List ℕ) (b before i : ℕ) → before < length R → headed R H b before i ≡ H
-headed-same R H b before i h = let t = lt-ltb before (length R) h in grind (arith, nat_tests)
+headed-new : (H : List (Option ℕ)) (b : ℕ) (before x : Option ℕ) → before ≡ None → headed before b x H ≡ set H b x
+headed-new H b before x e = rw e refl
 
-headed-new : (R : List Row) (H : List ℕ) (b before i : ℕ) → length R ≤ before → headed R H b before i ≡ set H b i
-headed-new R H b before i h = let t = le-ltb before (length R) h in grind (arith, nat_tests)
+headed-other : (H : List (Option ℕ)) (b : ℕ) (before x : Option ℕ) (c : ℕ) → (c ≡ b → ⊥) → get_or (headed before b x H) c None ≡ get_or H c None
+headed-other H b None x c n = get_or-set_other H b c x None n
+headed-other H b (Some i) x c n = refl
 
-headed-other : (R : List Row) (H : List ℕ) (b before i c : ℕ) → (c ≡ b → ⊥) → get_or (headed R H b before i) c 0 ≡ get_or H c 0
-headed-other R H b before i c n =
-    ⊎_elim
-    (λ h. ap (λ x. get_or x c 0) (headed-same R H b before i h))
-    (λ h. ap (λ x. get_or x c 0) (headed-new R H b before i h) ∙ get_or-set_other H b c i 0 n)
-    (cases_lt before (length R))
+headed-length : (H : List (Option ℕ)) (b : ℕ) (before x : Option ℕ) → length (headed before b x H) ≡ length H
+headed-length H b None x = length-set H b x
+headed-length H b (Some i) x = refl
 
-headed-length : (R : List Row) (H : List ℕ) (b before i : ℕ) → length (headed R H b before i) ≡ length H
-headed-length R H b before i =
-    ⊎_elim
-    (λ h. ap length (headed-same R H b before i h))
-    (λ h. ap length (headed-new R H b before i h) ∙ length-set H b i)
-    (cases_lt before (length R))
+relinked-same : (L : List (Option ℕ)) (i : ℕ) (before x : Option ℕ) → before ≡ Some i → i < length L → get_or (relinked before x L) i None ≡ x
+relinked-same L i before x e h = rw e (get_or-set_same L i x None h)
 
-module _ (key : Pair → ℕ) (R : List Row) (L H : List ℕ) (d : distinct R ≡ true) (o : sound (pile_of R) ≡ true) (k : Linked key R L H) (links : length L ≡ length R) (before at l i : ℕ) (f : Fact) (small : key (l, f) < 64) (one : 1 ≤ l) where
+pub relinked-other : (L : List (Option ℕ)) (j : ℕ) (before x : Option ℕ) → (before ≡ Some j → ⊥) → get_or (relinked before x L) j None ≡ get_or L j None
+relinked-other L j None x n = refl
+relinked-other L j (Some i) x n = get_or-set_other L i j x None (λ e. n (ap (λ (m : ℕ). Some m) (sym e)))
+
+module _ (key : Pair → ℕ) (R : List Row) (L H : List (Option ℕ)) (d : distinct R ≡ true) (o : sound (pile_of R) ≡ true) (k : Linked key R L H) (links : length L ≡ length R) (before at : Option ℕ) (l i : ℕ) (f : Fact) (small : key (l, f) < 64) (one : 1 ≤ l) where
   -- a free row gets the pair
   module _ (p : Place key R L H (key (l, f)) l before at) (e : get_or R i None ≡ None) (h : i < length R) (a : absent l R ≡ true) where
     missing : read l (pairs_of R) ≡ None
     missing = absent-read l R a
 
-    from : Source key R L H (key (l, f)) l before at (label_in (get_or R before None))
+    from : Source key R L H (key (l, f)) l before at (label_at R before)
     from = source key R L H (key (l, f)) l before at d o k p small
 
     pairs : pairs_of (set R i (Some (l, f))) ≡ placed l f (pairs_of R)
@@ -194,40 +187,40 @@ module _ (key : Pair → ℕ) (R : List Row) (L H : List ℕ) (d : distinct R �
 
     -- the label of the row before, or 0
     abbrev prior : ℕ
-    prior = label_in (get_or R before None)
+    prior = label_at R before
 
-    apart-rows : before < length R → (before ≡ i → ⊥)
-    apart-rows s q = let r = from.row s in let z : ◌≡◌ {A = Row} (Some (prior, r.0)) None = sym r.1 ∙ ap (λ x. get_or R x None) q ∙ e in let y : ◌≡◌ {A = ℕ} 0 1 = cc in absurd (omega arith)
+    apart-rows : before ≡ Some i → ⊥
+    apart-rows q = let r = from.row i q in let z : ◌≡◌ {A = Row} (Some (prior, r.0)) None = sym r.1 ∙ e in let y : ◌≡◌ {A = ℕ} 0 1 = cc in absurd (omega arith)
 
-    itself : points (set R i (Some (l, f))) i (Some l) ≡ true
+    itself : points (set R i (Some (l, f))) (Some i) (Some l) ≡ true
     itself = rw (get_or-set_same R i (Some (l, f)) None h) (eq-eqb l l refl)
 
-    here : points (set R i (Some (l, f))) i (next_in (on_chain key (key (l, f))) prior (pairs_of (set R i (Some (l, f))))) ≡ true
-    here = rw (pairs, fill_here key (pairs_of R) l (label_in (get_or R before None)) f (rises-pairs R) missing one from.holder from.below from.same) itself
+    here : points (set R i (Some (l, f))) (Some i) (next_in (on_chain key (key (l, f))) prior (pairs_of (set R i (Some (l, f))))) ≡ true
+    here = rw (pairs, fill_here key (pairs_of R) l (label_at R before) f (rises-pairs R) missing one from.holder from.below from.same) itself
 
-    other : (c m j : ℕ) → holds (on_chain key c) m (pairs_of R) ≡ true → (c ≡ key (l, f) → m ≡ prior → ⊥) → points R j (next_in (on_chain key c) m (pairs_of R)) ≡ true → points (set R i (Some (l, f))) j (next_in (on_chain key c) m (pairs_of (set R i (Some (l, f))))) ≡ true
+    other : (c m : ℕ) (j : Option ℕ) → holds (on_chain key c) m (pairs_of R) ≡ true → (c ≡ key (l, f) → m ≡ prior → ⊥) → points R j (next_in (on_chain key c) m (pairs_of R)) ≡ true → points (set R i (Some (l, f))) j (next_in (on_chain key c) m (pairs_of (set R i (Some (l, f))))) ≡ true
     other c m j u s q =
-        rw (pairs, fill_other key (pairs_of R) l m (label_in (get_or R before None)) c f (rises-pairs R) missing one from.holder from.below from.same u s)
+        rw (pairs, fill_other key (pairs_of R) l m (label_at R before) c f (rises-pairs R) missing one from.holder from.below from.same u s)
         (points_fill R i l j f (next_in (on_chain key c) m (pairs_of R)) e q)
 
-    first-filled : (c : ℕ) → c < 64 → points (set R i (Some (l, f))) (get_or (headed R H (key (l, f)) before i) c 0) (next_in (on_chain key c) 0 (pairs_of (set R i (Some (l, f))))) ≡ true
-    first-filled c w = ⊎_elim (λ q. at_head q) (λ q. rw (headed-other R H (key (l, f)) before i c q) (other c 0 (get_or H c 0) refl (λ x _. q x) (k.first c w))) (cases_eq c (key (l, f)))
+    first-filled : (c : ℕ) → c < 64 → points (set R i (Some (l, f))) (get_or (headed before (key (l, f)) (Some i) H) c None) (next_in (on_chain key c) 0 (pairs_of (set R i (Some (l, f))))) ≡ true
+    first-filled c w = ⊎_elim (λ q. at_head q) (λ q. rw (headed-other H (key (l, f)) before (Some i) c q) (other c 0 (get_or H c None) refl (λ x _. q x) (k.first c w))) (cases_eq c (key (l, f)))
       where
-        at_head : c ≡ key (l, f) → points (set R i (Some (l, f))) (get_or (headed R H (key (l, f)) before i) c 0) (next_in (on_chain key c) 0 (pairs_of (set R i (Some (l, f))))) ≡ true
+        at_head : c ≡ key (l, f) → points (set R i (Some (l, f))) (get_or (headed before (key (l, f)) (Some i) H) c None) (next_in (on_chain key c) 0 (pairs_of (set R i (Some (l, f))))) ≡ true
         at_head q =
             ⊎_elim
-            (λ s. let r = from.row s in rw (headed-same R H (key (l, f)) before i s) (other c 0 (get_or H c 0) refl (λ _ z. let y = r.4 in absurd (omega arith)) (k.first c w)))
+            (λ s. let r = from.row s.0 s.1 in rw (headed-same H (key (l, f)) s.0 before (Some i) s.1) (other c 0 (get_or H c None) refl (λ _ z. let y = r.4 in absurd (omega arith)) (k.first c w)))
             (λ s.
             let z = from.head s in
             let n = k.sized in
             let b : key (l, f) < length H = omega arith in
-            rw (q, headed-new R H (key (l, f)) before i s, get_or-set_same H (key (l, f)) i 0 b) (subst (λ (x : ℕ). points (set R i (Some (l, f))) i (next_in (on_chain key (key (l, f))) x (pairs_of (set R i (Some (l, f))))) ≡ true) z.0 here))
-            (cases_lt before (length R))
+            rw (q, headed-new H (key (l, f)) before (Some i) s, get_or-set_same H (key (l, f)) (Some i) None b) (subst (λ (x : ℕ). points (set R i (Some (l, f))) (Some i) (next_in (on_chain key (key (l, f))) x (pairs_of (set R i (Some (l, f))))) ≡ true) z.0 here))
+            (named_or_none before)
 
-    later-filled : (j m : ℕ) (g : Fact) → get_or (set R i (Some (l, f))) j None ≡ Some (m, g) → points (set R i (Some (l, f))) (get_or (set (set L i at) before i) j 0) (next_in (on_chain key (key (m, g))) m (pairs_of (set R i (Some (l, f))))) ≡ true
+    later-filled : (j m : ℕ) (g : Fact) → get_or (set R i (Some (l, f))) j None ≡ Some (m, g) → points (set R i (Some (l, f))) (get_or (relinked before (Some i) (set L i at)) j None) (next_in (on_chain key (key (m, g))) m (pairs_of (set R i (Some (l, f))))) ≡ true
     later-filled j m g y = ⊎_elim (λ q. new q) (λ q. old q) (cases_eq j i)
       where
-        new : j ≡ i → points (set R i (Some (l, f))) (get_or (set (set L i at) before i) j 0) (next_in (on_chain key (key (m, g))) m (pairs_of (set R i (Some (l, f))))) ≡ true
+        new : j ≡ i → points (set R i (Some (l, f))) (get_or (relinked before (Some i) (set L i at)) j None) (next_in (on_chain key (key (m, g))) m (pairs_of (set R i (Some (l, f))))) ≡ true
         new q =
             let x : ◌≡◌ {A = Row} (Some (l, f)) (Some (m, g)) = sym (get_or-set_same R i (Some (l, f)) None h) ∙ ap (λ n. get_or (set R i (Some (l, f))) n None) (sym q) ∙ y in
             let p' = one_pair l m f g x in
@@ -235,42 +228,41 @@ module _ (key : Pair → ℕ) (R : List Row) (L H : List ℕ) (d : distinct R �
             let v = p'.1 in
             let w : points R at (next_in (on_chain key (key (l, f))) l (pairs_of R)) ≡ true = p.next in
             let s : next_in (on_chain key (key (l, f))) l (placed l f (pairs_of R)) ≡ next_in (on_chain key (key (l, f))) l (pairs_of R) = next-placed (on_chain key (key (l, f))) l l f (pairs_of R) (rises-pairs R) missing ∙ rw (le-ltb l l (omega arith)) refl in
-            let t : get_or (set (set L i at) before i) i 0 ≡ at = ⊎_elim (λ z. get_or-set_other (set L i at) before i i 0 (λ n. apart-rows z (sym n)) ∙ get_or-set_same L i at 0 (omega arith)) (λ z. get_or-set_other (set L i at) before i i 0 (λ n. absurd (omega arith)) ∙ get_or-set_same L i at 0 (omega arith)) (cases_lt before (length R)) in
+            let t : get_or (relinked before (Some i) (set L i at)) i None ≡ at = relinked-other (set L i at) i before (Some i) apart-rows ∙ get_or-set_same L i at None (omega arith) in
             rw (q, t, ← u, ← v, pairs, s) (points_fill R i l at f (next_in (on_chain key (key (l, f))) l (pairs_of R)) e w)
 
-        old : (j ≡ i → ⊥) → points (set R i (Some (l, f))) (get_or (set (set L i at) before i) j 0) (next_in (on_chain key (key (m, g))) m (pairs_of (set R i (Some (l, f))))) ≡ true
-        old q = ⊎_elim (λ z. linked z) (λ z. unlinked z) (cases_eq j before)
+        old : (j ≡ i → ⊥) → points (set R i (Some (l, f))) (get_or (relinked before (Some i) (set L i at)) j None) (next_in (on_chain key (key (m, g))) m (pairs_of (set R i (Some (l, f))))) ≡ true
+        old q = ⊎_elim (λ z. linked z) (λ z. unlinked z) (names_or_not before j)
           where
             had : get_or R j None ≡ Some (m, g)
             had = sym (get_or-set_other R i j (Some (l, f)) None q) ∙ y
 
-            linked : j ≡ before → points (set R i (Some (l, f))) (get_or (set (set L i at) before i) j 0) (next_in (on_chain key (key (m, g))) m (pairs_of (set R i (Some (l, f))))) ≡ true
+            linked : before ≡ Some j → points (set R i (Some (l, f))) (get_or (relinked before (Some i) (set L i at)) j None) (next_in (on_chain key (key (m, g))) m (pairs_of (set R i (Some (l, f))))) ≡ true
             linked z =
                 let w = used-within R j m g had in
-                let s : before < length R = omega arith in
-                let r = from.row s in
-                let x : ◌≡◌ {A = Row} (Some (prior, r.0)) (Some (m, g)) = sym r.1 ∙ ap (λ n. get_or R n None) (sym z) ∙ had in
+                let r = from.row j z in
+                let x : ◌≡◌ {A = Row} (Some (prior, r.0)) (Some (m, g)) = sym r.1 ∙ had in
                 let p' = one_pair prior m r.0 g x in
                 let u = p'.0 in
                 let v = p'.1 in
                 let n = length-set L i at in
-                let t : get_or (set (set L i at) before i) before 0 ≡ i = get_or-set_same (set L i at) before i 0 (omega arith) in
+                let t : get_or (relinked before (Some i) (set L i at)) j None ≡ Some i = relinked-same (set L i at) j before (Some i) z (omega arith) in
                 let c : key (m, g) ≡ key (l, f) = ap (λ n. key (n, g)) (sym u) ∙ ap (λ n. key (prior, n)) (sym v) ∙ r.2 in
-                rw (z, t, c, ← u) here
+                rw (t, c, ← u) here
 
-            unlinked : (j ≡ before → ⊥) → points (set R i (Some (l, f))) (get_or (set (set L i at) before i) j 0) (next_in (on_chain key (key (m, g))) m (pairs_of (set R i (Some (l, f))))) ≡ true
+            unlinked : (before ≡ Some j → ⊥) → points (set R i (Some (l, f))) (get_or (relinked before (Some i) (set L i at)) j None) (next_in (on_chain key (key (m, g))) m (pairs_of (set R i (Some (l, f))))) ≡ true
             unlinked z =
                 let r = used-read R j m g d had in
                 let s = eq-eqb (key (m, g)) (key (m, g)) refl in
                 let u : holds (on_chain key (key (m, g))) m (pairs_of R) ≡ true = rw (r, s) (grind (arith, nat_tests)) in
                 let b = used-sound R j m g d o had in
                 let n : 1 ≤ m = grind (arith, nat_tests) in
-                let w : key (m, g) ≡ key (l, f) → m ≡ prior → ⊥ = λ _ x. ⊎_elim (λ y. let v = from.row y in z (one-row R j before m g v.0 d had (v.1 ∙ ap (λ n. Some (n, v.0)) (sym x)))) (λ y. let v = (from.head y).0 in absurd (omega arith)) (cases_lt before (length R)) in
-                let t : get_or (set (set L i at) before i) j 0 ≡ get_or L j 0 = get_or-set_other (set L i at) before j i 0 z ∙ get_or-set_other L i j at 0 q in
-                rw t (other (key (m, g)) m (get_or L j 0) u w (k.later j m g had))
+                let w : key (m, g) ≡ key (l, f) → m ≡ prior → ⊥ = λ _ x. ⊎_elim (λ y. let v = from.row y.0 y.1 in z (named_as before y.0 j y.1 (one-row R y.0 j m v.0 g d (v.1 ∙ ap (λ n. Some (n, v.0)) (sym x)) had))) (λ y. let v = (from.head y).0 in absurd (omega arith)) (named_or_none before) in
+                let t : get_or (relinked before (Some i) (set L i at)) j None ≡ get_or L j None = relinked-other (set L i at) j before (Some i) z ∙ get_or-set_other L i j at None q in
+                rw t (other (key (m, g)) m (get_or L j None) u w (k.later j m g had))
 
-    pub filled : Linked key (set R i (Some (l, f))) (set (set L i at) before i) (headed R H (key (l, f)) before i)
-    filled = record { sized = headed-length R H (key (l, f)) before i ∙ k.sized; first = first-filled; later = later-filled }
+    pub filled : Linked key (set R i (Some (l, f))) (relinked before (Some i) (set L i at)) (headed before (key (l, f)) (Some i) H)
+    filled = record { sized = headed-length H (key (l, f)) before (Some i) ∙ k.sized; first = first-filled; later = later-filled }
 
   -- a row is freed
   module _ (p : Place key R L H (key (l, f)) (l - 1) before at) (e : get_or R i None ≡ Some (l, f)) where
@@ -280,7 +272,7 @@ module _ (key : Pair → ℕ) (R : List Row) (L H : List ℕ) (d : distinct R �
     inside : i < length R
     inside = used-within R i l f e
 
-    origin : Source key R L H (key (l, f)) (l - 1) before at (label_in (get_or R before None))
+    origin : Source key R L H (key (l, f)) (l - 1) before at (label_at R before)
     origin = source key R L H (key (l, f)) (l - 1) before at d o k p small
 
     less : pairs_of (set R i None) ≡ taken_out l (pairs_of R)
@@ -288,40 +280,40 @@ module _ (key : Pair → ℕ) (R : List Row) (L H : List ℕ) (d : distinct R �
 
     -- the label of the row before, or 0
     abbrev earlier : ℕ
-    earlier = label_in (get_or R before None)
+    earlier = label_at R before
 
     leads : next_in (on_chain key (key (l, f))) earlier (pairs_of R) ≡ Some l
     leads =
         let s : passes_at (on_chain key (key (l, f))) l (read l (pairs_of R)) ≡ true = rw (found, eq-eqb (key (l, f)) (key (l, f)) refl) refl in
         origin.same ∙ freed-found (on_chain key (key (l, f))) (pairs_of R) l (rises-pairs R) s one
 
-    past : points (set R i None) (get_or L i 0) (next_in (on_chain key (key (l, f))) earlier (pairs_of (set R i None))) ≡ true
+    past : points (set R i None) (get_or L i None) (next_in (on_chain key (key (l, f))) earlier (pairs_of (set R i None))) ≡ true
     past =
         rw (less, freed-here (on_chain key (key (l, f))) (pairs_of R) l earlier (rises-pairs R) leads)
-        (points-free R i l (get_or L i 0) f (next_in (on_chain key (key (l, f))) l (pairs_of R)) e (freed-past (on_chain key (key (l, f))) (pairs_of R) l (rises-pairs R)) (k.later i l f e))
+        (points-free R i l (get_or L i None) f (next_in (on_chain key (key (l, f))) l (pairs_of R)) e (freed-past (on_chain key (key (l, f))) (pairs_of R) l (rises-pairs R)) (k.later i l f e))
 
-    kept : (c m j : ℕ) → holds (on_chain key c) m (pairs_of R) ≡ true → (c ≡ key (l, f) → m ≡ earlier → ⊥) → points R j (next_in (on_chain key c) m (pairs_of R)) ≡ true → points (set R i None) j (next_in (on_chain key c) m (pairs_of (set R i None))) ≡ true
+    kept : (c m : ℕ) (j : Option ℕ) → holds (on_chain key c) m (pairs_of R) ≡ true → (c ≡ key (l, f) → m ≡ earlier → ⊥) → points R j (next_in (on_chain key c) m (pairs_of R)) ≡ true → points (set R i None) j (next_in (on_chain key c) m (pairs_of (set R i None))) ≡ true
     kept c m j u s q =
         let z = freed-other key (pairs_of R) l m earlier c f (rises-pairs R) found origin.holder leads u s in
         let t : next_in (on_chain key c) m (taken_out l (pairs_of R)) ≡ next_in (on_chain key c) m (pairs_of R) = next-taken (on_chain key c) m l (pairs_of R) (rises-pairs R) ∙ rw z refl in
         rw (less, t) (points-free R i l j f (next_in (on_chain key c) m (pairs_of R)) e z q)
 
-    first-freed : (c : ℕ) → c < 64 → points (set R i None) (get_or (headed R H (key (l, f)) before (get_or L i 0)) c 0) (next_in (on_chain key c) 0 (pairs_of (set R i None))) ≡ true
-    first-freed c w = ⊎_elim (λ q. at_head q) (λ q. rw (headed-other R H (key (l, f)) before (get_or L i 0) c q) (kept c 0 (get_or H c 0) refl (λ x _. q x) (k.first c w))) (cases_eq c (key (l, f)))
+    first-freed : (c : ℕ) → c < 64 → points (set R i None) (get_or (headed before (key (l, f)) (get_or L i None) H) c None) (next_in (on_chain key c) 0 (pairs_of (set R i None))) ≡ true
+    first-freed c w = ⊎_elim (λ q. at_head q) (λ q. rw (headed-other H (key (l, f)) before (get_or L i None) c q) (kept c 0 (get_or H c None) refl (λ x _. q x) (k.first c w))) (cases_eq c (key (l, f)))
       where
-        at_head : c ≡ key (l, f) → points (set R i None) (get_or (headed R H (key (l, f)) before (get_or L i 0)) c 0) (next_in (on_chain key c) 0 (pairs_of (set R i None))) ≡ true
+        at_head : c ≡ key (l, f) → points (set R i None) (get_or (headed before (key (l, f)) (get_or L i None) H) c None) (next_in (on_chain key c) 0 (pairs_of (set R i None))) ≡ true
         at_head q =
             ⊎_elim
-            (λ s. let r = origin.row s in rw (headed-same R H (key (l, f)) before (get_or L i 0) s) (kept c 0 (get_or H c 0) refl (λ _ z. let y = r.4 in absurd (omega arith)) (k.first c w)))
+            (λ s. let r = origin.row s.0 s.1 in rw (headed-same H (key (l, f)) s.0 before (get_or L i None) s.1) (kept c 0 (get_or H c None) refl (λ _ z. let y = r.4 in absurd (omega arith)) (k.first c w)))
             (λ s.
             let z = origin.head s in
             let n = k.sized in
             let b : key (l, f) < length H = omega arith in
-            rw (q, headed-new R H (key (l, f)) before (get_or L i 0) s, get_or-set_same H (key (l, f)) (get_or L i 0) 0 b) (subst (λ (x : ℕ). points (set R i None) (get_or L i 0) (next_in (on_chain key (key (l, f))) x (pairs_of (set R i None))) ≡ true) z.0 past))
-            (cases_lt before (length R))
+            rw (q, headed-new H (key (l, f)) before (get_or L i None) s, get_or-set_same H (key (l, f)) (get_or L i None) None b) (subst (λ (x : ℕ). points (set R i None) (get_or L i None) (next_in (on_chain key (key (l, f))) x (pairs_of (set R i None))) ≡ true) z.0 past))
+            (named_or_none before)
 
-    later-freed : (j m : ℕ) (g : Fact) → get_or (set R i None) j None ≡ Some (m, g) → points (set R i None) (get_or (set L before (get_or L i 0)) j 0) (next_in (on_chain key (key (m, g))) m (pairs_of (set R i None))) ≡ true
-    later-freed j m g y = ⊎_elim (λ z. linked z) (λ z. unlinked z) (cases_eq j before)
+    later-freed : (j m : ℕ) (g : Fact) → get_or (set R i None) j None ≡ Some (m, g) → points (set R i None) (get_or (relinked before (get_or L i None) L) j None) (next_in (on_chain key (key (m, g))) m (pairs_of (set R i None))) ≡ true
+    later-freed j m g y = ⊎_elim (λ z. linked z) (λ z. unlinked z) (names_or_not before j)
       where
         other_row : j ≡ i → ⊥
         other_row q = let x : ◌≡◌ {A = Row} None (Some (m, g)) = sym (get_or-set_same R i None None inside) ∙ ap (λ n. get_or (set R i None) n None) (sym q) ∙ y in let v : ◌≡◌ {A = ℕ} 0 1 = cc in absurd (omega arith)
@@ -329,38 +321,37 @@ module _ (key : Pair → ℕ) (R : List Row) (L H : List ℕ) (d : distinct R �
         had : get_or R j None ≡ Some (m, g)
         had = sym (get_or-set_other R i j None None other_row) ∙ y
 
-        linked : j ≡ before → points (set R i None) (get_or (set L before (get_or L i 0)) j 0) (next_in (on_chain key (key (m, g))) m (pairs_of (set R i None))) ≡ true
+        linked : before ≡ Some j → points (set R i None) (get_or (relinked before (get_or L i None) L) j None) (next_in (on_chain key (key (m, g))) m (pairs_of (set R i None))) ≡ true
         linked z =
             let w = used-within R j m g had in
-            let s : before < length R = omega arith in
-            let r = origin.row s in
-            let x : ◌≡◌ {A = Row} (Some (earlier, r.0)) (Some (m, g)) = sym r.1 ∙ ap (λ n. get_or R n None) (sym z) ∙ had in
+            let r = origin.row j z in
+            let x : ◌≡◌ {A = Row} (Some (earlier, r.0)) (Some (m, g)) = sym r.1 ∙ had in
             let p' = one_pair earlier m r.0 g x in
             let u = p'.0 in
             let v = p'.1 in
-            let t : get_or (set L before (get_or L i 0)) before 0 ≡ get_or L i 0 = get_or-set_same L before (get_or L i 0) 0 (omega arith) in
+            let t : get_or (relinked before (get_or L i None) L) j None ≡ get_or L i None = relinked-same L j before (get_or L i None) z (omega arith) in
             let c : key (m, g) ≡ key (l, f) = ap (λ n. key (n, g)) (sym u) ∙ ap (λ n. key (earlier, n)) (sym v) ∙ r.2 in
-            rw (z, t, c, ← u) past
+            rw (t, c, ← u) past
 
-        unlinked : (j ≡ before → ⊥) → points (set R i None) (get_or (set L before (get_or L i 0)) j 0) (next_in (on_chain key (key (m, g))) m (pairs_of (set R i None))) ≡ true
+        unlinked : (before ≡ Some j → ⊥) → points (set R i None) (get_or (relinked before (get_or L i None) L) j None) (next_in (on_chain key (key (m, g))) m (pairs_of (set R i None))) ≡ true
         unlinked z =
             let r = used-read R j m g d had in
             let s = eq-eqb (key (m, g)) (key (m, g)) refl in
             let u : holds (on_chain key (key (m, g))) m (pairs_of R) ≡ true = rw (r, s) (grind (arith, nat_tests)) in
             let b = used-sound R j m g d o had in
             let n : 1 ≤ m = grind (arith, nat_tests) in
-            let w : key (m, g) ≡ key (l, f) → m ≡ earlier → ⊥ = λ _ x. ⊎_elim (λ y. let v = origin.row y in z (one-row R j before m g v.0 d had (v.1 ∙ ap (λ n. Some (n, v.0)) (sym x)))) (λ y. let v = (origin.head y).0 in absurd (omega arith)) (cases_lt before (length R)) in
-            let t : get_or (set L before (get_or L i 0)) j 0 ≡ get_or L j 0 = get_or-set_other L before j (get_or L i 0) 0 z in
-            rw t (kept (key (m, g)) m (get_or L j 0) u w (k.later j m g had))
+            let w : key (m, g) ≡ key (l, f) → m ≡ earlier → ⊥ = λ _ x. ⊎_elim (λ y. let v = origin.row y.0 y.1 in z (named_as before y.0 j y.1 (one-row R y.0 j m v.0 g d (v.1 ∙ ap (λ n. Some (n, v.0)) (sym x)) had))) (λ y. let v = (origin.head y).0 in absurd (omega arith)) (named_or_none before) in
+            let t : get_or (relinked before (get_or L i None) L) j None ≡ get_or L j None = relinked-other L j before (get_or L i None) z in
+            rw t (kept (key (m, g)) m (get_or L j None) u w (k.later j m g had))
 
-    pub freed : Linked key (set R i None) (set L before (get_or L i 0)) (headed R H (key (l, f)) before (get_or L i 0))
-    freed = record { sized = headed-length R H (key (l, f)) before (get_or L i 0) ∙ k.sized; first = first-freed; later = later-freed }
+    pub freed : Linked key (set R i None) (relinked before (get_or L i None) L) (headed before (key (l, f)) (get_or L i None) H)
+    freed = record { sized = headed-length H (key (l, f)) before (get_or L i None) ∙ k.sized; first = first-freed; later = later-freed }
 
 -- the link of a free row does not matter
-pub link-free : (key : Pair → ℕ) (R : List Row) (L H : List ℕ) (i x : ℕ) → Linked key R L H → get_or R i None ≡ None → Linked key R (set L i x) H
+pub link-free : (key : Pair → ℕ) (R : List Row) (L H : List (Option ℕ)) (i : ℕ) (x : Option ℕ) → Linked key R L H → get_or R i None ≡ None → Linked key R (set L i x) H
 link-free key R L H i x k e =
     record {
       sized = k.sized;
       first = k.first;
-      later = λ j m g y. let n : j ≡ i → ⊥ = (λ q. let z : ◌≡◌ {A = Row} None (Some (m, g)) = sym e ∙ ap (λ n. get_or R n None) (sym q) ∙ y in let v : ◌≡◌ {A = ℕ} 0 1 = cc in absurd (omega arith)) in rw (get_or-set_other L i j x 0 n) (k.later j m g y);
+      later = λ j m g y. let n : j ≡ i → ⊥ = (λ q. let z : ◌≡◌ {A = Row} None (Some (m, g)) = sym e ∙ ap (λ n. get_or R n None) (sym q) ∙ y in let v : ◌≡◌ {A = ℕ} 0 1 = cc in absurd (omega arith)) in rw (get_or-set_other L i j x None n) (k.later j m g y);
     }

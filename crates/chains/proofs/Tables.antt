@@ -1,9 +1,12 @@
 -- The rows and the links of a table, as a row is read and written.
-use Rattle.std.proofs.Common.{◌≡◌, ℕ, zero, suc, ◌<◌, true, false, List, [], ◌∷◌, length, get_or, set, refl, sym, ap, ◌∙◌, arith, None}
+use Rattle.std.proofs.Common.{◌≡◌, ℕ, zero, suc, ◌<◌, true, false, List, [], ◌∷◌, length, get_or, set, refl, sym, ap, ◌∙◌, arith, None, Some, Option, get_or-set_other, get_or-set_same}
 use Rattle.std.proofs.lemmas.List.{map-set, length-map}
-use Rattle.std.proofs.lemmas.Bool.{false≢true}
-use Rattle.chains.specs.Rows.{rows_of, link, with_link, links_of, heads_of, with_head, Walkable, Chained}
-use Rattle.chains.specs.Acts.{same_way}
+use Rattle.std.proofs.lemmas.Bool.{false≢true, eq-eqb, lt-ltb}
+use Rattle.facts.specs.declared.fact_types.Fact.{Fact}
+use Rattle.chains.specs.Links.{points}
+use Rattle.chains.proofs.Named.{points-within}
+use Rattle.chains.specs.Rows.{rows_of, number, named, link_to, link, links_of, Walkable, Chained}
+use Rattle.chains.specs.Acts.{same_way, Within}
 use Rattle.chains.specs.declared.chain_types.ChainRow.{ChainRow}
 use Rattle.chains.specs.declared.chain_types.Heads.{Heads}
 use Rattle.chains.specs.declared.chain_types.Way.{Way}
@@ -14,7 +17,7 @@ row-at [] i d h = absurd (omega arith)
 row-at (r ∷ t) zero d h = refl
 row-at (r ∷ t) (suc i) d h = row-at t i d (omega arith)
 
-pub link-at : (w : Way) (t : List ChainRow) (i : ℕ) (d : ChainRow) → i < length t → get_or (links_of w t) i 0 ≡ link w (get_or t i d)
+pub link-at : (w : Way) (t : List ChainRow) (i : ℕ) (d : ChainRow) → i < length t → get_or (links_of w t) i None ≡ link w (get_or t i d)
 link-at w [] i d h = absurd (omega arith)
 link-at w (r ∷ t) zero d h = refl
 link-at w (r ∷ t) (suc i) d h = link-at w t i d (omega arith)
@@ -25,85 +28,73 @@ rows-length t = length-map t (λ r. r.row)
 pub links-length : (w : Way) (t : List ChainRow) → length (links_of w t) ≡ length (rows_of t)
 links-length w t = length-map t (link w) ∙ sym (rows-length t)
 
--- what a row reads as beyond the table
-abbrev pub blank : ChainRow
-blank = record { row = None; by_label = 0; by_kind = 0; by_word = 0 }
-
 -- a row written whose pair, or whose link, is the one that stood there
-pub rows_stay : (t : List ChainRow) (i : ℕ) (r : ChainRow) → r.row ≡ (get_or t i blank).row → rows_of (set t i r) ≡ rows_of t
-rows_stay [] zero r e = refl
-rows_stay [] (suc i) r e = refl
-rows_stay (q ∷ t) zero r e = ap (λ x. x ∷ rows_of t) e
-rows_stay (q ∷ t) (suc i) r e = ap (λ x. q.row ∷ x) (rows_stay t i r e)
+pub rows_stay : (t : List ChainRow) (i : ℕ) (r d : ChainRow) → r.row ≡ (get_or t i d).row → rows_of (set t i r) ≡ rows_of t
+rows_stay [] zero r d e = refl
+rows_stay [] (suc i) r d e = refl
+rows_stay (q ∷ t) zero r d e = ap (λ x. x ∷ rows_of t) e
+rows_stay (q ∷ t) (suc i) r d e = ap (λ x. q.row ∷ x) (rows_stay t i r d e)
 
-pub links_stay : (w : Way) (t : List ChainRow) (i : ℕ) (r : ChainRow) → link w r ≡ link w (get_or t i blank) → links_of w (set t i r) ≡ links_of w t
-links_stay w [] zero r e = refl
-links_stay w [] (suc i) r e = refl
-links_stay w (q ∷ t) zero r e = ap (λ x. x ∷ links_of w t) e
-links_stay w (q ∷ t) (suc i) r e = ap (λ x. link w q ∷ x) (links_stay w t i r e)
+pub links_stay : (w : Way) (t : List ChainRow) (i : ℕ) (r d : ChainRow) → link w r ≡ link w (get_or t i d) → links_of w (set t i r) ≡ links_of w t
+links_stay w [] zero r d e = refl
+links_stay w [] (suc i) r d e = refl
+links_stay w (q ∷ t) zero r d e = ap (λ x. x ∷ links_of w t) e
+links_stay w (q ∷ t) (suc i) r d e = ap (λ x. link w q ∷ x) (links_stay w t i r d e)
 
--- one link set
-pub row-kept : (w : Way) (i : ℕ) (r : ChainRow) → (with_link w i r).row ≡ r.row
-row-kept ByLabel i r = refl
-row-kept ByKind i r = refl
-row-kept ByWord i r = refl
+-- a link to a row of a table leads to that row
+pub named-to : (o : Option ℕ) → Within o 1024 → named (link_to o) ≡ o
+named-to None h = refl
+named-to (Some i) h = rw (lt-ltb i 1024 h) refl
 
-pub link-own : (w : Way) (i : ℕ) (r : ChainRow) → link w (with_link w i r) ≡ i
-link-own ByLabel i r = refl
-link-own ByKind i r = refl
-link-own ByWord i r = refl
+-- a row with another link of one way
+pub record Relink (w : Way) (x : Option ℕ) (q r : ChainRow) : Type 0 where
+  pub row : r.row ≡ q.row
+  pub links : r.links ≡ set q.links (number w) (link_to x)
+  pub fits : Within x 1024
 
-link-clash : {X : Type 0} → true ≡ false → X
-link-clash e = absurd (false≢true (sym e))
+pub few_ways : (w : Way) → number w < 3
+few_ways ByLabel = omega arith
+few_ways ByKind = omega arith
+few_ways ByWord = omega arith
 
-pub link-other : (v w : Way) (i : ℕ) (r : ChainRow) → same_way v w ≡ false → link v (with_link w i r) ≡ link v r
-link-other ByLabel ByLabel i r e = link-clash e
-link-other ByLabel ByKind i r e = refl
-link-other ByLabel ByWord i r e = refl
-link-other ByKind ByLabel i r e = refl
-link-other ByKind ByKind i r e = link-clash e
-link-other ByKind ByWord i r e = refl
-link-other ByWord ByLabel i r e = refl
-link-other ByWord ByKind i r e = refl
-link-other ByWord ByWord i r e = link-clash e
+pub ways_apart : (v w : Way) → same_way v w ≡ false → number v ≡ number w → ⊥
+ways_apart v w e q = false≢true (sym e ∙ eq-eqb (number v) (number w) q)
 
-pub set-rows : (w : Way) (t : List ChainRow) (i x : ℕ) → rows_of (set t i (with_link w x (get_or t i blank))) ≡ rows_of t
-set-rows w t i x = rows_stay t i (with_link w x (get_or t i blank)) (row-kept w x (get_or t i blank))
+link-own : (w : Way) (x : Option ℕ) (q r : ChainRow) → Relink w x q r → link w r ≡ x
+link-own w x q r k =
+    let n = few_ways w in
+    let h = q.three in
+    ap (λ l. named (get_or l (number w) (link_to None))) k.links ∙ ap named (get_or-set_same q.links (number w) (link_to x) (link_to None) (omega arith)) ∙ named-to x k.fits
 
-pub set-own : (w : Way) (t : List ChainRow) (i x : ℕ) → links_of w (set t i (with_link w x (get_or t i blank))) ≡ set (links_of w t) i x
-set-own w t i x = map-set (link w) t i (with_link w x (get_or t i blank)) ∙ ap (set (links_of w t) i) (link-own w x (get_or t i blank))
+link-other : (v w : Way) (x : Option ℕ) (q r : ChainRow) → same_way v w ≡ false → Relink w x q r → link v r ≡ link v q
+link-other v w x q r e k = ap (λ l. named (get_or l (number v) (link_to None))) k.links ∙ ap named (get_or-set_other q.links (number w) (number v) (link_to x) (link_to None) (ways_apart v w e))
 
-pub set-other : (v w : Way) (t : List ChainRow) (i x : ℕ) → same_way v w ≡ false → links_of v (set t i (with_link w x (get_or t i blank))) ≡ links_of v t
-set-other v w t i x e = links_stay v t i (with_link w x (get_or t i blank)) (link-other v w x (get_or t i blank) e)
+module _ (w : Way) (t : List ChainRow) (i : ℕ) (x : Option ℕ) (r d : ChainRow) (k : Relink w x (get_or t i d) r) where
+  pub set-rows : rows_of (set t i r) ≡ rows_of t
+  set-rows = rows_stay t i r d k.row
 
--- one head set
-pub head-own : (w : Way) (b i : ℕ) (h : Heads) → heads_of w (with_head w b i h) ≡ set (heads_of w h) b i
-head-own ByLabel b i h = refl
-head-own ByKind b i h = refl
-head-own ByWord b i h = refl
+  pub set-own : links_of w (set t i r) ≡ set (links_of w t) i x
+  set-own = map-set (link w) t i r ∙ ap (set (links_of w t) i) (link-own w x (get_or t i d) r k)
 
-pub head-other : (v w : Way) (b i : ℕ) (h : Heads) → same_way v w ≡ false → heads_of v (with_head w b i h) ≡ heads_of v h
-head-other ByLabel ByLabel b i h e = link-clash e
-head-other ByLabel ByKind b i h e = refl
-head-other ByLabel ByWord b i h e = refl
-head-other ByKind ByLabel b i h e = refl
-head-other ByKind ByKind b i h e = link-clash e
-head-other ByKind ByWord b i h e = refl
-head-other ByWord ByLabel b i h e = refl
-head-other ByWord ByKind b i h e = refl
-head-other ByWord ByWord b i h e = link-clash e
-
-pub head-free : (w : Way) (b i : ℕ) (h : Heads) → ((with_head w b i h).free ≡ h.free) × ((with_head w b i h).count ≡ h.count)
-head-free ByLabel b i h = (refl, refl)
-head-free ByKind b i h = (refl, refl)
-head-free ByWord b i h = (refl, refl)
-
--- the heads stay where the first free row and the count are others
-pub heads_stay : (w : Way) (h : Heads) (i n : ℕ) → heads_of w (record h { free = i; count = n }) ≡ heads_of w h
-heads_stay ByLabel h i n = refl
-heads_stay ByKind h i n = refl
-heads_stay ByWord h i n = refl
+  pub set-other : (v : Way) → same_way v w ≡ false → links_of v (set t i r) ≡ links_of v t
+  set-other v e = links_stay v t i r d (link-other v w x (get_or t i d) r e k)
 
 -- the rows of a store can be walked each way
 pub walkable : (t : List ChainRow) (h : Heads) → Chained t h → (w : Way) → Walkable w t h
 walkable t h c w = record { apart = c.apart; kept = c.kept; linked = c.linked w }
+
+-- the row that a link names
+pub row-named : (t : List ChainRow) (at : Option ℕ) (i l : ℕ) (f : Fact) (o : Option ℕ) (d : ChainRow) → at ≡ Some i → points (rows_of t) at o ≡ true → (get_or t i d).row ≡ Some (l, f) → (points (rows_of t) (Some i) o ≡ true) × (get_or (rows_of t) i None ≡ Some (l, f))
+row-named t at i l f o d e p q =
+    let m : points (rows_of t) (Some i) o ≡ true = rw (← e) p in
+    let n = rows-length t in
+    let b = points-within (rows_of t) i o m in
+    (m, row-at t i d (omega arith) ∙ q)
+
+-- a row that is lent, at a place that a link names
+pub row-lent : (t : List ChainRow) (i : ℕ) (o : Option ℕ) (row : ChainRow) → points (rows_of t) (Some i) o ≡ true → row ≡ get_or t i row → (get_or (rows_of t) i None ≡ row.row) × ((w : Way) → get_or (links_of w t) i None ≡ link w row)
+row-lent t i o row p q =
+    let n = rows-length t in
+    let b = points-within (rows_of t) i o p in
+    let h : i < length t = omega arith in
+    (row-at t i row h ∙ ap (λ r. r.row) (sym q), λ w. link-at w t i row h ∙ ap (link w) (sym q))

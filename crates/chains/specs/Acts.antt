@@ -1,19 +1,13 @@
 -- What the inner functions of a store of linked rows answer and leave. No contract of a public function cites this.
-use Rattle.std.specs.Prelude.{◌≡◌, ℕ, ◌+◌, ◌<◌, Bool, true, false, cond, List, length, ℤ, is_some, Some, None, Ok, Option, nat_lt, slice_index_or, slice_set}
+use Rattle.std.specs.Prelude.{refl, ◌≡◌, ℕ, ◌+◌, ◌<◌, Bool, true, false, cond, List, [], ◌∷◌, length, ℤ, is_some, Some, None, Ok, Option, ◌==◌, nat_lt, slice_index_or, slice_set}
 use Rattle.facts.specs.declared.fact_types.Fact.{Fact}
 use Rattle.stores.specs.Store.{read, of_kind_with}
 use Rattle.stores.specs.Piles.{after_put}
 use Rattle.stores.specs.Table.{Row, pairs_of, pile_of}
-use Rattle.chains.specs.Rows.{rows_of, links_of, heads_of}
+use Rattle.chains.specs.Rows.{rows_of, number, link_to, links_of, heads_of}
 use Rattle.chains.specs.declared.chain_types.ChainRow.{ChainRow}
 use Rattle.chains.specs.declared.chain_types.Heads.{Heads}
 use Rattle.chains.specs.declared.chain_types.Way.{Way}
-use Rattle.chains.specs.declared.chain_types.Way.TheVariants.{ByLabel, ByKind, ByWord}
-
--- the label of a row, or 0
-abbrev pub label_in : Row → ℕ
-label_in None = 0
-label_in (Some (l, f)) = l
 
 -- the label of a row whose fact has a kind and a first word, or none
 abbrev pub asked_label : ℕ → ℤ → Row → Option ℕ
@@ -21,18 +15,19 @@ asked_label kind word None = None
 asked_label kind word (Some (l, f)) = cond (of_kind_with kind word f) (Some l) None
 
 abbrev pub same_way : Way → Way → Bool
-same_way ByLabel ByLabel = true
-same_way ByKind ByKind = true
-same_way ByWord ByWord = true
-same_way v w = false
+same_way v w = number v == number w
 
 -- a row without a pair, whose link by label names another
-abbrev pub free_row : ℕ → ChainRow
-free_row i = record { row = None; by_label = i; by_kind = 1024; by_word = 1024 }
+abbrev pub free_row : Option ℕ → ChainRow
+free_row i = record { row = None; links = link_to i ∷ link_to None ∷ link_to None ∷ []; three = refl }
+
+-- the row behind one of so many rows, or none
+abbrev pub behind : ℕ → ℕ → Option ℕ
+behind n i = cond (nat_lt (i + 1) n) (Some (i + 1)) None
 
 -- each row is free and names the one behind it
 pub record AllFree (t : List ChainRow) : Type 0 where
-  pub each : (i : ℕ) → i < length t → slice_index_or t i (free_row 0) ≡ free_row (i + 1)
+  pub each : (i : ℕ) → i < length t → slice_index_or t i (free_row None) ≡ free_row (behind (length t) i)
 
 -- the row of a label and its fact, or none where the label is not held
 abbrev pub Finds : ℕ → List Row → Option (ℕ × Fact) → Type 0
@@ -45,20 +40,34 @@ pub record Leaves (w : Way) (i : ℕ) (t u : List ChainRow) (h g : Heads) : Type
   pub rows : rows_of u ≡ rows_of t
   pub links : (v : Way) → same_way v w ≡ false → links_of v u ≡ links_of v t
   pub heads : (v : Way) → same_way v w ≡ false → heads_of v g ≡ heads_of v h
-  pub frees : (j : ℕ) → (j ≡ i → ⊥) → j < length (rows_of t) → slice_index_or (rows_of t) j None ≡ None → slice_index_or (links_of w u) j 0 ≡ slice_index_or (links_of w t) j 0
+  pub frees : (j : ℕ) → (j ≡ i → ⊥) → j < length (rows_of t) → slice_index_or (rows_of t) j None ≡ None → slice_index_or (links_of w u) j None ≡ slice_index_or (links_of w t) j None
   pub free : g.free ≡ h.free
   pub count : g.count ≡ h.count
 
 -- whether a fact was put in the place of a label's own: else nothing changed
-abbrev pub Replaces : Bool → ℕ → Fact → List Row → List Row → Type 0
-Replaces true l f old new = (is_some (read l (pairs_of old)) ≡ true) × (pile_of new ≡ after_put l f (pile_of old) (Ok tt))
-Replaces false l f old new = new ≡ old
+abbrev pub Replaces : Option (Unit {0}) → ℕ → Fact → List Row → List Row → Type 0
+Replaces (Some u) l f old new = (is_some (read l (pairs_of old)) ≡ true) × (pile_of new ≡ after_put l f (pile_of old) (Ok tt))
+Replaces None l f old new = new ≡ old
 
--- a link to a row set: in the row before it, or in the head of the chain where there is no such row
-pub record Pointed (w : Way) (chain before i : ℕ) (t u : List ChainRow) (h g : Heads) : Type 0 where
+-- a row that a link may name is within so many rows
+abbrev pub Within : Option ℕ → ℕ → Type 0
+Within None n = Unit {0}
+Within (Some i) n = i < n
+
+-- the links and the heads after a link is set: in the row before, or in the head of the chain where there is no such row
+abbrev pub relinked : Option ℕ → Option ℕ → List (Option ℕ) → List (Option ℕ)
+relinked None x links = links
+relinked (Some i) x links = slice_set links i x
+
+abbrev pub headed : Option ℕ → ℕ → Option ℕ → List (Option ℕ) → List (Option ℕ)
+headed None chain x heads = slice_set heads chain x
+headed (Some i) chain x heads = heads
+
+-- a link to a row set
+pub record Pointed (w : Way) (chain : ℕ) (before i : Option ℕ) (t u : List ChainRow) (h g : Heads) : Type 0 where
   pub rows : rows_of u ≡ rows_of t
-  pub own_links : links_of w u ≡ slice_set (links_of w t) before i
-  pub own_heads : heads_of w g ≡ cond (nat_lt before (length (rows_of t))) (heads_of w h) (slice_set (heads_of w h) chain i)
+  pub own_links : links_of w u ≡ relinked before i (links_of w t)
+  pub own_heads : heads_of w g ≡ headed before chain i (heads_of w h)
   pub links : (v : Way) → same_way v w ≡ false → links_of v u ≡ links_of v t
   pub heads : (v : Way) → same_way v w ≡ false → heads_of v g ≡ heads_of v h
   pub free : g.free ≡ h.free

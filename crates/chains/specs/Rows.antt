@@ -1,11 +1,12 @@
 -- The rows of a table with links: what it holds, its links and heads of each way, and what makes it a store.
-use Rattle.std.specs.Prelude.{◌≡◌, ℕ, suc, ◌+◌, ◌-◌, ◌%◌, true, List, map, length, ℤ, pos, negsuc, slice_index_or, slice_set}
+use Rattle.std.specs.Prelude.{◌≡◌, ℕ, suc, ◌+◌, ◌-◌, ◌%◌, true, List, [], map, length, ℤ, pos, negsuc, Option, None, Some, cond, nat_lt, slice_index_or}
 use Rattle.stores.specs.Store.{Pair, label, fact}
 use Rattle.stores.specs.Piles.{sound}
 use Rattle.stores.specs.Table.{Row, pairs_of, pile_of, distinct}
 use Rattle.chains.specs.Links.{Linked, frees}
 use Rattle.chains.specs.declared.chain_types.ChainRow.{ChainRow}
 use Rattle.chains.specs.declared.chain_types.Heads.{Heads}
+use Rattle.chains.specs.declared.chain_types.Link.{Link}
 use Rattle.chains.specs.declared.chain_types.Way.{Way}
 use Rattle.chains.specs.declared.chain_types.Way.TheVariants.{ByLabel, ByKind, ByWord}
 
@@ -26,30 +27,30 @@ chain_of ByWord l kind word = (kind + magnitude word % 64) % 64
 abbrev pub chain_at : Way → Pair → ℕ
 chain_at w p = chain_of w (label p) (fact p).kind (slice_index_or (fact p).words 0 (pos 0))
 
--- one row's link, and the row with another
-abbrev pub link : Way → ChainRow → ℕ
-link ByLabel r = r.by_label
-link ByKind r = r.by_kind
-link ByWord r = r.by_word
+-- the place of a way among the three
+abbrev pub number : Way → ℕ
+number ByLabel = 0
+number ByKind = 1
+number ByWord = 2
 
-abbrev pub with_link : Way → ℕ → ChainRow → ChainRow
-with_link ByLabel i r = record r { by_label = i }
-with_link ByKind i r = record r { by_kind = i }
-with_link ByWord i r = record r { by_word = i }
+-- the row that a link leads to, or none, and the link to one
+abbrev pub named : Link → Option ℕ
+named l = cond (nat_lt l.number 1024) (Some l.number) None
 
-abbrev pub links_of : Way → List ChainRow → List ℕ
+abbrev pub link_to : Option ℕ → Link
+link_to None = record { number = 1024 }
+link_to (Some i) = record { number = i }
+
+-- the row after another on its chain, and those of all rows
+abbrev pub link : Way → ChainRow → Option ℕ
+link w r = named (slice_index_or r.links (number w) (link_to None))
+
+abbrev pub links_of : Way → List ChainRow → List (Option ℕ)
 links_of w = map (link w)
 
--- the heads of one way, and all of them with another head
-abbrev pub heads_of : Way → Heads → List ℕ
-heads_of ByLabel h = h.by_label
-heads_of ByKind h = h.by_kind
-heads_of ByWord h = h.by_word
-
-abbrev pub with_head : Way → ℕ → ℕ → Heads → Heads
-with_head ByLabel chain i h = record h { by_label = slice_set h.by_label chain i }
-with_head ByKind chain i h = record h { by_kind = slice_set h.by_kind chain i }
-with_head ByWord chain i h = record h { by_word = slice_set h.by_word chain i }
+-- the heads of one way
+abbrev pub heads_of : Way → Heads → List (Option ℕ)
+heads_of w h = map named (slice_index_or h.firsts (number w) [])
 
 -- the links of one way are right
 abbrev pub LinkedWay : Way → List Row → List ChainRow → Heads → Type 0

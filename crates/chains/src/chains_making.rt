@@ -25,10 +25,8 @@ impl<'a> Chains<'a> {
     {
         free_all(table);
         let heads = Heads {
-            by_label: [NO_ROW; CHAINS],
-            by_kind: [NO_ROW; CHAINS],
-            by_word: [NO_ROW; CHAINS],
-            free: 0,
+            firsts: [[NO_ROW; CHAINS]; 3],
+            free: Some(0),
             count: 0,
         };
         Chains {
@@ -42,7 +40,9 @@ fn free_all(table: &mut [ChainRow])
     requires { table_answer (length table.old) ≡ Ok tt }
     ensures { AllFree table.new }
 {
+    let rows = table.len();
     for (i, row) in table.iter_mut().enumerate() {
-        *row = free_row(i + 1);
+        // By hand: a row's number is below 1,024, and `try_from` would answer an error that cannot come.
+        *row = free_row((i + 1 < rows).then_some((i + 1) as u32));
     }
 }

@@ -10,7 +10,7 @@ use crate::chain_types::{CHAINS, Chain, ChainRow, Way};
 use crate::chains_type::Chains;
 use crate::ways::chain_of;
 use facts::{Fact, KINDS};
-use stores::{LABELS, Store, StoreFault, is_asked_for};
+use stores::{Store, StoreFault, check_pair, is_asked_for};
 
 /// The label of a row whose fact has a kind and a first word, or none.
 fn asked_label(row: &ChainRow, kind: u8, word: i64) -> Option<u32>
@@ -22,37 +22,37 @@ fn asked_label(row: &ChainRow, kind: u8, word: i64) -> Option<u32>
 
 impl Chains<'_> {
     /// The row of a label and its fact, or none: the first row of the label's chain that is not below it has the label or no row has it.
-    fn held(&self, label: u32) -> Option<(usize, Fact)>
+    fn held(&self, label: u32) -> Option<(u32, Fact)>
         ensures { Finds label (rows_of self.now.linked.table.now) result }
     {
         if label == 0 {
             return None;
         }
         let chain = Chain {
+            way: Way::ByLabel,
             number: label as usize % CHAINS,
         };
-        let (_, at) = self.linked.place(Way::ByLabel, chain, label - 1);
-        let (held, fact) = self.linked.table.get(at)?.row?;
+        let at = self.linked.place(chain, label - 1).at?;
+        let (held, fact) = self.linked.table[at as usize].row?;
         (held == label).then_some((at, fact))
     }
 
-    /// Puts a fact in the place of one of its kind and first word, so that no row changes its chains. It answers whether it did.
-    fn replaced(&mut self, label: u32, fact: Fact) -> bool
+    /// Puts a fact in the place of one of its kind and first word, so that no row changes its chains; or answers none and changes nothing.
+    fn replaced(&mut self, label: u32, fact: Fact) -> Option<()>
         requires { sound_pair (label, fact) ≡ true }
         ensures { Replaces result label fact (rows_of self.old.linked.table.now) (rows_of self.new.linked.table.now) }
     {
-        let Some((i, held)) = self.held(label) else {
-            return false;
-        };
+        let (i, held) = self.held(label)?;
         if !same_chains(&held, &fact) {
-            return false;
+            return None;
         }
-        self.linked.table[i].row = Some((label, fact));
-        true
+        self.linked.table[i as usize].row = Some((label, fact));
+        Some(())
     }
 }
 
 /// Whether two facts under one label stand on the same chains, by kind and first word.
+// By hand: it is equality of two parts of a fact, and the derived one is of the whole.
 fn same_chains(left: &Fact, right: &Fact) -> bool
     ensures { result ≡ of_kind_with right.now.kind (slice_index_or right.now.words 0 (pos 0)) left.now }
 {
@@ -83,51 +83,45 @@ impl Store for Chains<'_> {
             return None;
         }
         let chain = Chain {
-            number: kind as usize,
+            way: Way::ByKind,
+            number: usize::from(kind),
         };
-        let (_, at) = self.linked.place(Way::ByKind, chain, above);
-        let (label, _) = self.linked.table.get(at)?.row?;
+        let at = self.linked.place(chain, above).at?;
+        let (label, _) = self.linked.table[at as usize].row?;
         Some(label)
     }
 
     /// The walk ends at the first row that fits, since behind it the labels are greater.
+    // By hand, as in `place`.
     fn next_with(&self, kind: u8, word: i64, above: u32) -> Option<u32> {
         let chain = chain_of(Way::ByWord, 0, kind, word);
-        let (_, first) = self.linked.place(Way::ByWord, chain, above);
         let table = &*self.linked.table;
-        let mut at = first;
-        while at < table.len() {
-            if let Some(label) = asked_label(&table[at], kind, word) {
+        let mut at = self.linked.place(chain, above).at;
+        while let Some(i) = at {
+            let row = &table[i as usize];
+            if let Some(label) = asked_label(row, kind, word) {
                 return Some(label);
             }
-            at = table[at].by_word;
+            at = row.next(Way::ByWord);
         }
         None
     }
 
     /// A fact of another kind or first word than the label's own stands on other chains, and so the label's pair is taken out first.
-    // Kind and label are judged here as in `Rows`: as a call, what passes would be known only through the answer, and opened again here.
     fn put(&mut self, label: u32, fact: Fact) -> Result<(), StoreFault> {
-        if fact.kind >= KINDS {
-            return Err(StoreFault::Kind);
-        }
-        if label == 0 || label > LABELS {
-            return Err(StoreFault::Label);
-        }
-        if self.replaced(label, fact) {
+        check_pair(label, &fact)?;
+        if self.replaced(label, fact).is_some() {
             return Ok(());
         }
         let _ = self.take(label);
-        if self.count() == self.capacity() {
-            return Err(StoreFault::Full);
-        }
-        self.linked.add(label, fact);
+        let i = self.linked.heads.free.ok_or(StoreFault::Full)?;
+        self.linked.add(i, (label, fact));
         Ok(())
     }
 
     fn take(&mut self, label: u32) -> Option<Fact> {
         let (i, fact) = self.held(label)?;
-        self.linked.remove(i, label, &fact);
+        self.linked.remove(i, &(label, fact));
         Some(fact)
     }
 }

@@ -1,5 +1,8 @@
--- Labels that are written over a list, one row after the other.
-use Rattle.std.proofs.Common.{◌≡◌, ℕ, ◌+◌, List, ◌++◌, length, take, drop, sym, refl, ap, ◌∙◌, arith, append_assoc, length-append}
+-- Labels that are written over a list, those of one all head after the other.
+use Rattle.std.proofs.Common.{◌≡◌, ℕ, ◌+◌, ◌<◌, List, ◌++◌, length, get_or, take, drop, flat_map, sym, refl, ap, ◌∙◌, arith, append_assoc, length-append}
+use Rattle.std.proofs.lemmas.List.{take_more, flat_map_more}
+use Rattle.lists.specs.Held.{held}
+use Rattle.engine.specs.Taking.{Taken}
 use Rattle.std.proofs.Math.Seq.{take-append_seam}
 use Rattle.std.proofs.lemmas.Slice.{drop-append-drop}
 use Rattle.machine.specs.Machine.{listed}
@@ -12,16 +15,15 @@ written-more xs ys l n e =
     let d : n + length ys ≡ length (xs ++ ys) = omega (arith, length-append xs ys) in
     (λ i. a i ++ (ys ++ b i)) ∙ (sym (append_assoc xs ys (drop (n + length ys) l)) ∙ ap (λ m. (xs ++ ys) ++ drop m l) d)
 
--- three rows
-pub written : (old one two three xs ys zs : List ℕ) (n m : ℕ) → n ≡ length xs → m ≡ length ys →
-    one ≡ xs ++ drop (0 + length xs) old →
-    two ≡ take n one ++ (ys ++ drop (n + length ys) one) →
-    three ≡ take (n + m) two ++ (zs ++ drop (n + m + length zs) two) →
-    three ≡ listed (xs ++ (ys ++ zs)) old
-written old one two three xs ys zs n m e d f g h =
-    let z : 0 + length xs ≡ length xs = omega arith in
-    let a : one ≡ listed xs old = f ∙ ap (λ k. xs ++ drop k old) z in
-    let b : two ≡ listed (xs ++ ys) old = g ∙ (ap (λ l. take n l ++ (ys ++ drop (n + length ys) l)) a ∙ written-more xs ys old n e) in
-    h
-    ∙ (ap (λ l. take (n + m) l ++ (zs ++ drop (n + m + length zs) l)) b
-    ∙ (written-more (xs ++ ys) zs old (n + m) (omega (arith, length-append xs ys)) ∙ ap (λ l. listed l old) (append_assoc xs ys zs)))
+-- what one all head more took is written behind the others
+pub written-step : (begins l old now : List ℕ) (tk : List Taken) (i end : ℕ) (t : Taken) (ys : List ℕ) → i < length tk → ys ≡ held (get_or tk i t) →
+    end ≡ length (begins ++ flat_map held (take i tk)) → old ≡ listed (begins ++ flat_map held (take i tk)) l → now ≡ take end old ++ (ys ++ drop (end + length ys) old) →
+    (end + length (held (get_or tk i t)) ≡ length (begins ++ flat_map held (take (i + 1) tk))) × (now ≡ listed (begins ++ flat_map held (take (i + 1) tk)) l)
+written-step begins l old now tk i end t ys h y e f g =
+    let xs = begins ++ flat_map held (take i tk) in
+    let item = get_or tk i t in
+    let more : xs ++ held item ≡ begins ++ flat_map held (take (i + 1) tk) =
+    flat_map_more held begins (take i tk) item ∙ ap (λ zs. begins ++ flat_map held zs) (sym (take_more tk i t h)) in (
+      omega (arith, e, length-append xs (held item), ap length more),
+      g ∙ ((λ j. take end (f j) ++ (y j ++ drop (end + length (y j)) (f j))) ∙ (written-more xs (held item) l end e ∙ ap (λ zs. listed zs l) more)),
+    )

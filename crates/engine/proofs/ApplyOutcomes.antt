@@ -1,15 +1,12 @@
 -- What an application comes to, refused or done, is what the machine makes of it.
-use Rattle.std.proofs.Common.{◌≡◌, ℕ, ◌≤◌, cond, List, [], ◌∷◌, ◌++◌, map, flat_map, length, get_or, take, drop, Some, None, Option, sym, refl, ap, subst, ◌∙◌, arith}
+use Rattle.std.proofs.Common.{◌≡◌, ℕ, cond, List, [], ◌∷◌, ◌++◌, map, flat_map, length, get_or, take, drop, Some, None, Option, sym, refl, ap, subst, ◌∙◌, arith}
 use Rattle.std.specs.Prelude.{option_map}
-use Rattle.std.proofs.lemmas.Bool.Decides.{nat_tests}
 use Rattle.std.proofs.lemmas.List.{drop-map}
 use Rattle.facts.specs.System.{System}
 use Rattle.facts.specs.declared.fact_types.Fact.{Fact}
-use Rattle.rules.specs.Rules.{AllHead}
 use Rattle.rules.specs.Closed.{heads_of, Place}
 use Rattle.stores.specs.Lists.{has}
 use Rattle.stores.specs.Store.{Pair, label, labels, facts, without}
-use Rattle.stores.specs.Piles.{Pile, Owed}
 use Rattle.machine.specs.declared.answer_types.Answer.TheVariants.{Applied, Refused}
 use Rattle.machine.specs.declared.answer_types.Shortage.{Shortage}
 use Rattle.machine.specs.declared.answer_types.StepFault.{StepFault}
@@ -19,20 +16,18 @@ use Rattle.machine.specs.declared.goal_types.Goal.TheVariants.{Try}
 use Rattle.machine.specs.Faults.{short_step}
 use Rattle.machine.specs.Fitting.{setting_of}
 use Rattle.machine.specs.Machine.{Frame, State, Outcome, taken_of, gone_of, gone_alls, given_of, left_of, shortage, account, bring, listed, apply_room, apply_body, try_choice}
-use Rattle.machine.proofs.Parts.{map-append, gone-alls-map}
+use Rattle.machine.proofs.Parts.{map-append}
 use Rattle.machine.proofs.Rooms.{some-none, some-some}
 use Rattle.engine.specs.declared.applying.Weighed.{Weighed}
 use Rattle.engine.specs.declared.body_type.Body.{Body}
-use Rattle.engine.specs.declared.taking.AllTaken.{AllTaken}
+use Rattle.engine.specs.Taking.{Taken}
+use Rattle.lists.specs.Held.{held}
 use Rattle.engine.specs.declared.search.Choice.{Choice}
 use Rattle.engine.specs.Applying.{gone_labels, used_labels, leaving_labels, facts_in, left_by, left_in, fault_of, IsReady}
 use Rattle.engine.specs.Goals.{top_of, below}
 use Rattle.engine.specs.Jobs.{IsOutcome}
 use Rattle.engine.proofs.Outcomes.{top_is}
-use Rattle.engine.proofs.Takings.{together_two, length-taken_by}
-
-pub owed-capacity : (m : Pile) → Owed m → length m.pairs ≤ m.capacity
-owed-capacity m o = grind (arith, nat_tests)
+use Rattle.engine.proofs.Takings.{together-took, gone-took, length-taken_by}
 
 -- what is left where the top goal tries the active label
 left-same : (s : System) (h : Place) (l i : ℕ) (st : State) (c : List Pair) → top_of st.goals ≡ Some (Try l i) → left_in s h l st c ≡ left_of s h l i (below st.goals) st c
@@ -62,15 +57,7 @@ apply_refused fr h l i st ns c o e t q k =
 
 -- done -----------------------------------------------------------------------------------------------------------------
 
-gone-two : (hs : List AllHead) (ts : List (List Pair)) → length ts ≡ length hs → length hs ≤ 2 → gone_alls hs (labels (get_or ts 0 []) ∷ (labels (get_or ts 1 []) ∷ [])) ≡ gone_alls hs (map labels ts)
-gone-two [] ts e h = refl
-gone-two (a ∷ hs) [] e h = absurd (omega arith)
-gone-two (a ∷ []) (t ∷ ts) e h = refl
-gone-two (a ∷ (b ∷ [])) (t ∷ []) e h = absurd (omega arith)
-gone-two (a ∷ (b ∷ [])) (t ∷ (u ∷ ts)) e h = refl
-gone-two (a ∷ (b ∷ (d ∷ hs))) (t ∷ ts) e h = absurd (omega arith)
-
-module _ (fr : Frame) (h : Place) (l : ℕ) (st : State) (c : List Pair) (tk : AllTaken) (bd : Body) (w : Weighed) (x : Choice) (k : IsReady fr h l st c tk bd w) (found : take (heads_of h.rule) x.labels ≡ labels c) where
+module _ (fr : Frame) (h : Place) (l : ℕ) (st : State) (c : List Pair) (tk : List Taken) (bd : Body) (w : Weighed) (x : Choice) (k : IsReady fr h l st c tk bd w) (found : take (heads_of h.rule) x.labels ≡ labels c) where
   taken : List (List Pair)
   taken = taken_of fr.system h.rule st.pairs c
 
@@ -82,14 +69,14 @@ module _ (fr : Frame) (h : Place) (l : ℕ) (st : State) (c : List Pair) (tk : A
   unfolding taken
   leaving =
       let r = h.rule in
-      (λ i. gone_labels r (found i) (k.first.held i) (k.second.held i))
-      ∙ ((λ i. drop-map label (length r.keeps) c i ++ (gone-two r.alls taken taken-long k.alls ∙ gone-alls-map label r.alls taken) i)
+      ap (λ ls. gone_labels r ls (map held tk)) found
+      ∙ ((λ i. drop-map label (length r.keeps) c i ++ gone-took r.alls taken tk taken-long k.alls k.took i)
       ∙ sym (map-append label (drop (length r.keeps) c) (gone_alls r.alls taken)))
 
   used : used_labels h.rule x tk ≡ labels c ++ flat_map labels (taken_of fr.system h.rule st.pairs c)
   unfolding taken
   used =
-      λ i. found i ++ ((λ j. k.first.held j ++ k.second.held j) ∙ together_two labels taken refl (omega (arith, taken-long, k.alls))) i
+      λ i. found i ++ together-took tk taken (omega (arith, taken-long, k.alls)) k.took i
 
   pub left_carried : left_by (leaving_labels h.rule x tk) w.goes st ≡ left_in fr.system h l st c
   left_carried = λ i. left_by (leaving i) (k.goes i) st
@@ -97,7 +84,7 @@ module _ (fr : Frame) (h : Place) (l : ℕ) (st : State) (c : List Pair) (tk : A
   pub room_carried : shortage fr (facts_in bd) (left_by (leaving_labels h.rule x tk) w.goes st) ≡ None
   room_carried = ap (shortage fr (facts_in bd)) left_carried ∙ k.room
 
-  module _ (i : ℕ) (ns : List ℕ) (o : Option (List Pair)) (t : top_of st.goals ≡ Some (Try l i)) (q : o ≡ Some c) where
+  module _ (i : ℕ) (ns : List ℕ) (first second : ℕ) (is_first : first ≡ length (get_or (taken_of fr.system h.rule st.pairs c) 0 [])) (is_second : second ≡ length (get_or (taken_of fr.system h.rule st.pairs c) 1 [])) (o : Option (List Pair)) (t : top_of st.goals ≡ Some (Try l i)) (q : o ≡ Some c) where
     fs : List Fact
     fs = facts_in bd
 
@@ -119,14 +106,14 @@ module _ (fr : Frame) (h : Place) (l : ℕ) (st : State) (c : List Pair) (tk : A
     pub apply_done : (st' : State) (ns' : List ℕ) (n : ℕ) → n ≡ h.number →
         st' ≡ bring fr.rules (facts_in bd) (left_by (leaving_labels h.rule x tk) w.goes st) → ns' ≡ listed (used_labels h.rule x tk) ns →
         IsOutcome (try_choice fr h l i (below st.goals) st ns o) st'
-        (Applied (record { rule = n; active = l; took = tk.first.count ∷ (tk.second.count ∷ []); removed = w.removed; added = bd.count })) ns'
+        (Applied (record { rule = n; active = l; took = first ∷ (second ∷ []); removed = w.removed; added = bd.count })) ns'
     unfolding fs left done
     apply_done st' ns' n a b d =
         subst
-        (λ z. IsOutcome z st' (Applied (record { rule = n; active = l; took = tk.first.count ∷ (tk.second.count ∷ []); removed = w.removed; added = bd.count })) ns')
+        (λ z. IsOutcome z st' (Applied (record { rule = n; active = l; took = first ∷ (second ∷ []); removed = w.removed; added = bd.count })) ns')
         done-is
         (record {
           state = b ∙ ap (bring fr.rules fs) (left_carried ∙ left-same fr.system h l i st c t);
-          answer = λ j. Applied (record { rule = a j; active = l; took = k.first.count j ∷ (k.second.count j ∷ []); removed = k.removed j; added = k.added j });
+          answer = λ j. Applied (record { rule = a j; active = l; took = is_first j ∷ (is_second j ∷ []); removed = k.removed j; added = k.added j });
           list = d ∙ ap (λ ls. listed ls ns) used;
         })

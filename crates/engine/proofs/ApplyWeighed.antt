@@ -1,6 +1,5 @@
 -- An application is weighed as the machine weighs it.
-use Rattle.std.proofs.Common.{◌≡◌, ℕ, zero, suc, ◌+◌, ◌-◌, ◌<◌, ◌≤◌, min, Bool, true, false, cond, not, ◌&&◌, if◌then◌else◌, ltb, List, [], ◌∷◌, map, length, get_or, take, drop, Some, None, Option, sym, refl, ap, subst, ◌∙◌, inl, inr, arith}
-use Rattle.std.specs.Borrow.{Bor}
+use Rattle.std.proofs.Common.{◌≡◌, ℕ, zero, suc, ◌+◌, ◌-◌, ◌<◌, ◌≤◌, min, Bool, true, false, cond, not, ◌&&◌, if◌then◌else◌, ltb, List, [], ◌∷◌, map, flat_map, length, get_or, take, drop, Some, None, Option, sym, refl, ap, subst, ◌∙◌, inl, inr, arith}
 use Rattle.std.specs.Prelude.{option_map}
 use Rattle.std.proofs.lemmas.Bool.{cases_lt, cond-true, lt-ltb}
 use Rattle.std.proofs.lemmas.List.{length-map, take_all, take_min}
@@ -10,10 +9,10 @@ use Rattle.facts.specs.System.{System}
 use Rattle.facts.specs.declared.fact_types.Fact.{Fact}
 use Rattle.rules.specs.declared.rule_types.RuleRecord.{RuleRecord}
 use Rattle.rules.specs.declared.rule_types.HeadPlace.{HeadPlace}
-use Rattle.rules.specs.Writing.{no_parts}
 use Rattle.rules.specs.Rules.{Rule, rule_seen, all}
-use Rattle.rules.specs.Closed.{heads_of, Place, stand, every_word, IsRuleAt}
+use Rattle.rules.specs.Closed.{heads_of, Place, stand, every_word}
 use Rattle.rules.proofs.Records.{singles-count, alls-count}
+use Rattle.lists.specs.Held.{held}
 use Rattle.lists.proofs.Held.{held-count}
 use Rattle.stores.specs.Lists.{has}
 use Rattle.stores.specs.Store.{Pair, label, fact, labels, facts}
@@ -31,18 +30,17 @@ use Rattle.machine.proofs.Rooms.{some-none, room_case}
 use Rattle.machine.proofs.Stands.{RuleStands, rule-stands}
 use Rattle.engine.specs.declared.body_type.Body.{Body}
 use Rattle.engine.specs.declared.search.Choice.{Choice}
-use Rattle.engine.specs.declared.taking.AllTaken.{AllTaken}
 use Rattle.engine.specs.Applying.{rule_at, place_at, choice_in, facts_in, left_in, fault_of, IsReady}
 use Rattle.engine.specs.Bringing.{has_kind}
 use Rattle.engine.specs.Goals.{below}
 use Rattle.engine.specs.Letters.{setting_in}
 use Rattle.engine.specs.Room.{short_of_store, short_of_room}
 use Rattle.engine.specs.Searching.{IsFound}
-use Rattle.engine.specs.Taking.{takes, all_taken, Taken, Took, gone_number, HasFacts, IsBody}
+use Rattle.engine.specs.Taking.{all_taken, Taken, Took, gone_number, HasFacts, IsBody}
 use Rattle.engine.proofs.ApplyBodies.{body-kinds, body-few}
 use Rattle.engine.proofs.ApplyGone.{drops_of}
 use Rattle.engine.proofs.ApplyLabels.{Chosen, chosen-is, gone-length, took-within, active-goes, owed-apart}
-use Rattle.engine.proofs.Takings.{all_taken-at, gone_number-gone, owed-length}
+use Rattle.engine.proofs.Takings.{takes_at, all_taken-at, gone_number-gone, length-took, owed-length}
 
 pub at-mem : {X : Type 0} (xs : List X) (i : ℕ) (d : X) → i < length xs → Memᴰ (get_or xs i d) xs
 at-mem [] i d h = absurd (omega arith)
@@ -108,16 +106,11 @@ pub record Weighing (fr : Frame) (st : State) (h : Place) (l : ℕ) (c : List Pa
   pub found : take (heads_of h.rule) x.labels ≡ labels c
   pub letters : setting_in x.letters ≡ setting_of h.rule (facts c)
 
--- a record at an index
-pub record_at : (rs : List Rule) (i j : ℕ) (o : Bor RuleRecord) → i ≡ j → IsRuleAt rs i (Some o) → rule_seen o.now ≡ get_or rs j no_parts
-record_at rs i j o e a = a.1 ∙ ap (λ n. get_or rs n no_parts) e
-
-pub weighing_is : (s : System) (rules : List Rule) (next : ℕ) (goals : List Goal) (p : HeadPlace) (l i : ℕ) (m : Pile) (o : Bor RuleRecord) (x : Choice) →
-    i ≡ p.rule → Owed m → IsRuleAt rules i (Some o) → p.place < heads_of (rule_at rules p) → IsFound (rule_at rules p) (chosen s (rule_at rules p) p.place l m.pairs) (Some x) →
+pub weighing_is : (s : System) (rules : List Rule) (next : ℕ) (goals : List Goal) (p : HeadPlace) (l : ℕ) (m : Pile) (o : RuleRecord) (x : Choice) →
+    rule_seen o ≡ rule_at rules p → Owed m → p.place < heads_of (rule_at rules p) → IsFound (rule_at rules p) (chosen s (rule_at rules p) p.place l m.pairs) (Some x) →
     Weighing (record { system = s; rules = rules; capacity = m.capacity }) (record { pairs = m.pairs; next = next; goals = goals }) (place_at rules p) l
-    (choice_in (chosen s (rule_at rules p) p.place l m.pairs)) m o.now x
-weighing_is s rules next goals p l i m o x e owed a placed h =
-    let r = record_at rules i p.rule o e a in
+    (choice_in (chosen s (rule_at rules p) p.place l m.pairs)) m o x
+weighing_is s rules next goals p l m o x r owed placed h =
     let f = found-is (rule_at rules p) (chosen s (rule_at rules p) p.place l m.pairs) x h in
     record {
       owed = owed;
@@ -151,8 +144,8 @@ module _ {fr : Frame} {st : State} {h : Place} {l : ℕ} {c : List Pair} {m : Pi
   pub same-given : body fr.system (setting_in x.letters) (rule_seen o) (map facts (all_taken fr.system (setting_in x.letters) (rule_seen o) (take o.singles.count x.labels) st.pairs)) ≡ given_of fr.system h.rule st.pairs c
   same-given = λ i. body fr.system (w.letters i) (w.means i) (map facts (same-taken i))
 
-  pub took-is : (i : ℕ) (t : Taken) → Took (get_or (all_taken fr.system (setting_in x.letters) (rule_seen o) (take o.singles.count x.labels) st.pairs) i []) t → Took (get_or (taken_of fr.system h.rule st.pairs c) i []) t
-  took-is i t a = subst (λ ts. Took (get_or ts i []) t) same-taken a
+  pub took-is : (t : List Taken) → Took (all_taken fr.system (setting_in x.letters) (rule_seen o) (take o.singles.count x.labels) st.pairs) t → Took (taken_of fr.system h.rule st.pairs c) t
+  took-is t a = subst (λ ts. Took ts t) same-taken a
 
   pub given-body : (b : Body) (a : Option (Unit {0})) → a ≡ Some tt → IsBody (body fr.system (setting_in x.letters) (rule_seen o) (map facts (all_taken fr.system (setting_in x.letters) (rule_seen o) (take o.singles.count x.labels) st.pairs))) b a →
       (fs : List Fact) × (given_of fr.system h.rule st.pairs c ≡ Some fs) × HasFacts fs b
@@ -165,7 +158,7 @@ module _ {fr : Frame} {st : State} {h : Place} {l : ℕ} {c : List Pair} {m : Pi
       let ts = taken_of fr.system h.rule st.pairs c in
       let a = ap length (get_or-map facts ts i []) ∙ length-map (get_or ts i []) fact in
       let b = ap length (all_taken-at fr.system (setting_of h.rule (facts c)) h.rule (labels c) st.pairs i) in
-      omega (arith, few-pairs, a, b, length-kept (λ p. not (has (label p) (labels c)) && takes fr.system (setting_of h.rule (facts c)) h.rule.alls i (fact p)) st.pairs)
+      omega (arith, few-pairs, a, b, length-kept (λ p. not (has (label p) (labels c)) && takes_at fr.system (setting_of h.rule (facts c)) h.rule.alls i (fact p)) st.pairs)
 
   module _ (rules : List Rule) (stands : stand every_word rules ≡ true) (member : Memᴰ h.rule rules) where
     given-stands : RuleStands every_word h.rule
@@ -189,25 +182,25 @@ module _ {fr : Frame} {st : State} {h : Place} {l : ℕ} {c : List Pair} {m : Pi
       ap (fault_of fr (left_in fr.system h l st c)) (no-body (given_of fr.system h.rule st.pairs c) b k')
 
   -- what leaves
-  module _ (t : AllTaken) (first : Took (get_or (taken_of fr.system h.rule st.pairs c) 0 []) t.first) (second : Took (get_or (taken_of fr.system h.rule st.pairs c) 1 []) t.second) where
-    pub removed-is : gone_number (rule_seen o) t.first.count t.second.count ≡ length (gone_of fr.system h.rule st.pairs c)
+  module _ (t : List Taken) (took : Took (taken_of fr.system h.rule st.pairs c) t) where
+    pub removed-is : gone_number (rule_seen o) (map held t) ≡ length (gone_of fr.system h.rule st.pairs c)
     removed-is =
-        (λ i. gone_number (w.means i) (first.count i) (second.count i)) ∙ gone_number-gone fr.system h.rule st.pairs c alls w.chosen.many
+        ap (λ r. gone_number r (map held t)) w.means ∙ gone_number-gone fr.system h.rule st.pairs c t alls w.chosen.many took
 
-    pub removed-few : gone_number (rule_seen o) t.first.count t.second.count ≤ length st.pairs
+    pub removed-few : gone_number (rule_seen o) (map held t) ≤ length st.pairs
     removed-few = omega (arith, removed-is, gone-length fr.system h.rule h.place l st.pairs c apart w.chosen)
 
-    pub used-within : heads_of h.rule + (t.first.count + t.second.count) ≤ length st.pairs
-    used-within = omega (arith, first.count, second.count, took-within fr.system h.rule h.place l st.pairs c apart w.chosen alls)
+    pub used-within : heads_of h.rule + length (flat_map held t) ≤ length st.pairs
+    used-within = omega (arith, length-took t (taken_of fr.system h.rule st.pairs c) took, took-within fr.system h.rule h.place l st.pairs c apart w.chosen alls)
 
-    pub goes-is : has l (take (o.singles.count - o.keep_count) (drop o.keep_count x.labels)) ≡ has l (labels (gone_of fr.system h.rule st.pairs c))
+    pub goes-is : has l (drop o.keep_count (take o.singles.count x.labels)) ≡ has l (labels (gone_of fr.system h.rule st.pairs c))
     goes-is =
         ap (has l) (drops_of o x.labels ∙ (λ i. drop (length (w.means i).keeps) (row i)))
         ∙ sym (active-goes fr.system h.rule h.place l st.pairs c apart w.chosen w.placed)
 
     -- whether there is room
-    module _ (removed : ℕ) (goes : Bool) (b : Body) (fs : List Fact) (gone : removed ≡ gone_number (rule_seen o) t.first.count t.second.count)
-        (top : goes ≡ has l (take (o.singles.count - o.keep_count) (drop o.keep_count x.labels))) (some_goal : 1 ≤ length st.goals) (has' : HasFacts fs b)
+    module _ (removed : ℕ) (goes : Bool) (b : Body) (fs : List Fact) (gone : removed ≡ gone_number (rule_seen o) (map held t))
+        (top : goes ≡ has l (drop o.keep_count (take o.singles.count x.labels))) (some_goal : 1 ≤ length st.goals) (has' : HasFacts fs b)
         (given : given_of fr.system h.rule st.pairs c ≡ Some fs) where
       left : State
       left = left_in fr.system h l st c
@@ -242,8 +235,7 @@ module _ {fr : Frame} {st : State} {h : Place} {l : ℕ} {c : List Pair} {m : Pi
             ] in
             let same : facts_in b ≡ fs = all-kept fs b has' few in
             record {
-              first = first;
-              second = second;
+              took = took;
               within = used-within;
               given = given ∙ ap Some (sym same);
               added = has'.count ∙ ap length (sym same);

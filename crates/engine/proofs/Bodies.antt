@@ -1,10 +1,10 @@
 -- The facts that a body gives, one after the other.
-use Rattle.std.proofs.Common.{◌≡◌, ℕ, zero, suc, ◌+◌, ◌-◌, ◌<◌, ◌≤◌, Bool, true, false, cond, not, ◌&&◌, eqb, ltb, List, [], ◌∷◌, ◌++◌, map, flat_map, length, min, get_or, take, drop, set, filter, Some, None, Option, is_some, sym, refl, ap, ◌∙◌, subst, ⊎_elim, arith}
+use Rattle.std.proofs.Common.{◌≡◌, ℕ, zero, suc, ◌+◌, ◌-◌, ◌<◌, ◌≤◌, Bool, true, false, cond, not, ◌&&◌, eqb, ltb, List, [], ◌∷◌, ◌++◌, map, flat_map, length, get_or, take, drop, set, filter, Some, None, Option, is_some, sym, refl, ap, ◌∙◌, subst, ⊎_elim, arith}
 use Rattle.std.specs.Option.{option_map}
 use Rattle.std.proofs.lemmas.Bool.{cases_Bool, and_parts, and_from, cond-true, cond-false, eq-eqb, ne_eqb}
 use borrow.Author.Tests.{ltb-true, ltb-false}
 use Rattle.std.proofs.lemmas.Bool.Decides.{nat_tests}
-use Rattle.std.proofs.lemmas.List.{append_assoc, append-nil, length-map, length-take, length_push, length-set, take_all, take_min, take_more_set, take-append-le, at_drop_more, get_or_past}
+use Rattle.std.proofs.lemmas.List.{append_assoc, append-nil, length-map, length_push, length-set, take_all, take_more_set, take-append-le, at_drop_more, get_or_past}
 use Rattle.std.proofs.Math.ListN.{get_or-map}
 use Rattle.std.specs.Prelude.{unwrap_or}
 use Rattle.facts.specs.declared.fact_types.Fact.{Fact}
@@ -17,12 +17,14 @@ use Rattle.stores.specs.Lists as stores
 use Rattle.stores.specs.Piles.{Pile, Owed}
 use Rattle.stores.proofs.Piles.{owed-rises}
 use Rattle.stores.proofs.Pairs.{above, all_above, all-kept}
-use Rattle.engine.proofs.Takings.{all_taken-at, heads_long}
+use Rattle.lists.specs.Held.{held}
+use Rattle.lists.proofs.Held.{held-count}
+use Rattle.engine.proofs.Takings.{takes_at, all_taken-at, heads_long}
 use Rattle.engine.specs.Searching.{no_fact, fact_at, pairs_at}
 use Rattle.engine.specs.declared.body_type.Body.{Body}
 use Rattle.facts.specs.System.{System}
 use Rattle.machine.specs.Fitting.{Setting, given, all_values, body}
-use Rattle.engine.specs.Taking.{with_given, with_all_given, Gives, HasFacts, IsBody, Taken, taken_labels, Took, Held, takes, taken_at, all_taken, labels_over, given_over}
+use Rattle.engine.specs.Taking.{with_given, with_all_given, Gives, HasFacts, IsBody, Taken, two, Took, Held, all_taken, labels_over, given_over}
 
 -- giving ------------------------------------------------------------------------------------------------------------
 
@@ -37,19 +39,9 @@ mapped b f (Some fs) = refl
 pub values_more : (b : Body) (f : Fact) (os : List (Option Fact)) → with_values b (Some f ∷ os) ≡ with_values (with_given b f) os
 values_more b f os = mapped b f (all_values os)
 
-gives-done : (old new : Body) (o : Option (List Fact)) → option_map (with_all_given old) o ≡ Some new → Gives o old new (Some tt)
-gives-done old new None e = grind (arith, nat_tests)
-gives-done old new (Some fs) e = (refl, sym (some-same _ _ e))
-  where
-    some-same : (a b : Body) → Some a ≡ Some b → a ≡ b
-    some-same a b e = cc
-
 gives_fail : (old new : Body) (o : Option (List Fact)) → option_map (with_all_given old) o ≡ None → Gives o old new None
 gives_fail old new None e = refl
 gives_fail old new (Some fs) e = grind (arith, nat_tests)
-
-pub values_done : (old new : Body) (os : List (Option Fact)) → with_values old os ≡ Some new → Gives (all_values os) old new (Some tt)
-values_done old new os e = gives-done old new (all_values os) e
 
 pub values_fail : (old new : Body) (os : List (Option Fact)) → with_values old os ≡ None → Gives (all_values os) old new None
 values_fail old new os e = gives_fail old new (all_values os) e
@@ -135,10 +127,6 @@ has_all fs (g ∷ gs) b h =
 pub has_facts : (fs : List Fact) (b : Body) → HasFacts [] b → HasFacts fs (with_all_given b fs)
 has_facts fs b h = has_all [] fs b h
 
--- the facts that it keeps
-pub kept-facts : (fs : List Fact) (b : Body) → HasFacts fs b → take (min b.count 512) b.facts ≡ take 512 fs
-kept-facts fs b h = ap (λ n. take (min b.count n) b.facts) (sym h.wide) ∙ (take_min b.count b.facts ∙ h.facts)
-
 body_from : (b : Body) (o : Option (List Fact)) (new : Body) → HasFacts [] b → option_map (with_all_given b) o ≡ Some new → IsBody o new (Some tt)
 body_from b None new h e = grind (arith, nat_tests)
 body_from b (Some fs) new h e = (refl, subst (λ x. HasFacts fs x) (some-same _ _ e) (has_facts fs b h))
@@ -164,12 +152,6 @@ over-more ps value ls i d f g old b new whole w h e v a =
     let rest = map value (facts (pairs_at ps (drop (i + 1) ls))) in
     w ∙ (over-step ps value ls i d f b h (sym e) ∙ (ap (λ o. with_values b (o ∷ rest)) (sym v) ∙ (values_more b g rest ∙ ap (λ x. with_values x rest) (sym a))))
 
-pub over_stop : (ps : List Pair) (value : Fact → Option Fact) (ls : List ℕ) (i d : ℕ) (f : Fact) (old b new : Body) (whole : List (Option Fact)) →
-    with_values old whole ≡ with_values b (map value (facts (pairs_at ps (drop i ls)))) → i < length ls → Some f ≡ read (get_or ls i d) ps → None ≡ value f → Gives (all_values whole) old new None
-over_stop ps value ls i d f old b new whole w h e v =
-    let rest = map value (facts (pairs_at ps (drop (i + 1) ls))) in
-    values_fail old new whole (w ∙ (over-step ps value ls i d f b h (sym e) ∙ ap (λ o. with_values b (o ∷ rest)) (sym v)))
-
 -- a step of what the `giveall`s give
 pub all-more : (give : GiveAll → List (Option Fact)) (gs : List GiveAll) (i : ℕ) (d : GiveAll) (old b new : Body) (whole : List (Option Fact)) →
     with_values old whole ≡ with_values b (flat_map give (drop i gs)) → i < length gs → Gives (all_values (give (get_or gs i d))) b new (Some tt) → with_values old whole ≡ with_values new (flat_map give (drop (i + 1) gs))
@@ -188,18 +170,18 @@ pub gives_along : {X : Type 0} (F : X → List (Option Fact)) (ls ms : X) (old n
 gives_along {X} F ls ms old new a b e h g =
     subst (λ (xs : X). Gives (all_values (F xs)) old new b) e (subst (λ (x : Option (Unit {0})). Gives (all_values (F ls)) old new x) h g)
 
-over-few : (k : ℕ) (t u : Taken) → length (get_or (taken_labels t ∷ (taken_labels u ∷ [])) k []) ≤ 1024
-over-few zero t u = omega (arith, t.few, length-take t.count t.items)
-over-few (suc zero) t u = omega (arith, u.few, length-take u.count u.items)
-over-few (suc (suc i)) t u = omega arith
+over-few : (k : ℕ) (tk : List Taken) → length (get_or (map held tk) k []) ≤ 1024
+over-few k [] = omega arith
+over-few zero (t ∷ tk) = omega (arith, t.few, held-count t)
+over-few (suc k) (t ∷ tk) = over-few k tk
 
-pub length-given_over : (s : System) (σ : Setting) (ps : List Pair) (t u : Taken) (g : GiveAll) → length (given_over s σ ps t u g) ≤ 1024
-length-given_over s σ ps t u g =
-    let ls = labels_over g.over t u in
+pub length-given_over : (s : System) (σ : Setting) (ps : List Pair) (tk : List Taken) (g : GiveAll) → length (given_over s σ ps tk g) ≤ 1024
+length-given_over s σ ps tk g =
+    let ls = labels_over g.over tk in
     let a = length-map (facts (pairs_at ps ls)) (λ f. given s σ f.words g.each) in
     let b = length-map (pairs_at ps ls) fact in
     let c = length-map {B = Pair} ls (λ l. (l, fact_at ps l)) in
-    omega (arith, over-few (g.over - 1) t u, a, b, c)
+    omega (arith, over-few (g.over - 1) tk, a, b, c)
 
 -- pairs found again by their labels ---------------------------------------------------------------------------------
 
@@ -239,34 +221,50 @@ pairs_back k (p ∷ ps) r =
     go false h = h
 
 -- what all heads took, by its labels
-pub took_held : (s : System) (σ : Setting) (r : Rule) (ls : List ℕ) (m : Pile) (i : ℕ) (t : Taken) → Took (get_or (all_taken s σ r ls m.pairs) i []) t → Held m.pairs t
-took_held s σ r ls m i t k =
-    let e : taken_labels t ≡ labels (taken_at s σ r.alls i ls m.pairs) = k.held ∙ ap labels (all_taken-at s σ r ls m.pairs i) in
-    ap (all (λ n. is_some (read n m.pairs))) e ∙ kept_held (λ p. not (has p.0 ls) && takes s σ r.alls i (fact p)) m.pairs
+module _ (s : System) (σ : Setting) (r : Rule) (ls : List ℕ) (m : Pile) where
+  held_at : (i : ℕ) → all (λ n. is_some (read n m.pairs)) (labels (get_or (all_taken s σ r ls m.pairs) i [])) ≡ true
+  held_at i =
+      ap (λ ps. all (λ n. is_some (read n m.pairs)) (labels ps)) (all_taken-at s σ r ls m.pairs i)
+      ∙ kept_held (λ p. not (has p.0 ls) && takes_at s σ r.alls i (fact p)) m.pairs
 
-took_back : (s : System) (σ : Setting) (r : Rule) (ls : List ℕ) (m : Pile) → Owed m → (i : ℕ) (t : Taken) → Took (get_or (all_taken s σ r ls m.pairs) i []) t → facts (pairs_at m.pairs (taken_labels t)) ≡ get_or (map facts (all_taken s σ r ls m.pairs)) i []
-took_back s σ r ls m o i t k =
-    let x = all_taken-at s σ r ls m.pairs i in
-    let b = pairs_back (λ p. not (has p.0 ls) && takes s σ r.alls i (fact p)) m.pairs (owed-rises m o) in
-    ap (λ ns. facts (pairs_at m.pairs ns)) (k.held ∙ ap labels x)
-    ∙ (ap facts (b ∙ sym x) ∙ sym (get_or-map facts (all_taken s σ r ls m.pairs) i []))
+  pub took_held : (tk : List Taken) → Took (all_taken s σ r ls m.pairs) tk → Held m.pairs tk
+  took_held tk k =
+      let test : List ℕ → Bool = all (λ n. is_some (read n m.pairs)) in
+      let second = labels (get_or (all_taken s σ r ls m.pairs) 1 []) in
+      ap (all test) k ∙ and_from (test (labels (get_or (all_taken s σ r ls m.pairs) 0 []))) (test second && true) (held_at 0) (and_from (test second) true (held_at 1) refl)
+
+  took_back : Owed m → (i : ℕ) → facts (pairs_at m.pairs (labels (get_or (all_taken s σ r ls m.pairs) i []))) ≡ get_or (map facts (all_taken s σ r ls m.pairs)) i []
+  took_back o i =
+      let x = all_taken-at s σ r ls m.pairs i in
+      let b = pairs_back (λ p. not (has p.0 ls) && takes_at s σ r.alls i (fact p)) m.pairs (owed-rises m o) in
+      ap (λ ps. facts (pairs_at m.pairs (labels ps))) x
+      ∙ (ap facts (b ∙ sym x) ∙ sym (get_or-map facts (all_taken s σ r ls m.pairs) i []))
 
 -- every list of facts taken is found by its labels
-pub record Found (ps : List Pair) (ts : List (List Pair)) (t u : Taken) : Type 0 where
-  pub facts_over : (o : ℕ) → facts (pairs_at ps (labels_over o t u)) ≡ get_or (map facts ts) (o - 1) []
+pub record Found (ps : List Pair) (ts : List (List Pair)) (tk : List Taken) : Type 0 where
+  pub facts_over : (o : ℕ) → facts (pairs_at ps (labels_over o tk)) ≡ get_or (map facts ts) (o - 1) []
 
-pub found : (s : System) (σ : Setting) (r : RuleRecord) (ls : List ℕ) (m : Pile) (t u : Taken) → Owed m → Took (get_or (all_taken s σ (rule_seen r) ls m.pairs) 0 []) t → Took (get_or (all_taken s σ (rule_seen r) ls m.pairs) 1 []) u →
-    Found m.pairs (all_taken s σ (rule_seen r) ls m.pairs) t u
-found s σ r ls m t u w k l = record { facts_over = λ o. go (o - 1) }
+pub found : (s : System) (σ : Setting) (r : RuleRecord) (ls : List ℕ) (m : Pile) (tk : List Taken) → Owed m → Took (all_taken s σ (rule_seen r) ls m.pairs) tk →
+    Found m.pairs (all_taken s σ (rule_seen r) ls m.pairs) tk
+found s σ r ls m tk w k = record { facts_over = λ o. ap (λ xs. facts (pairs_at m.pairs (get_or xs (o - 1) []))) k ∙ go (o - 1) }
   where
-    go : (i : ℕ) → facts (pairs_at m.pairs (get_or (taken_labels t ∷ (taken_labels u ∷ [])) i [])) ≡ get_or (map facts (all_taken s σ (rule_seen r) ls m.pairs)) i []
-    go zero = took_back s σ (rule_seen r) ls m w 0 t k
-    go (suc zero) = took_back s σ (rule_seen r) ls m w 1 u l
+    go : (i : ℕ) → facts (pairs_at m.pairs (get_or (map labels (two (all_taken s σ (rule_seen r) ls m.pairs))) i [])) ≡ get_or (map facts (all_taken s σ (rule_seen r) ls m.pairs)) i []
+    go zero = took_back s σ (rule_seen r) ls m w 0
+    go (suc zero) = took_back s σ (rule_seen r) ls m w 1
     go (suc (suc i)) =
         let n = heads_long s σ r ls m.pairs in
         let x = length-map (all_taken s σ (rule_seen r) ls m.pairs) facts in
         let b : length (map facts (all_taken s σ (rule_seen r) ls m.pairs)) ≤ suc (suc i) = omega (arith, r.alls.few) in
         sym (get_or_past (map facts (all_taken s σ (rule_seen r) ls m.pairs)) (suc (suc i)) [] b)
+
+-- the labels over which a `giveall` gives are held
+pub held-over : (ps : List Pair) (tk : List Taken) (o : ℕ) → Held ps tk → all (λ n. is_some (read n ps)) (labels_over o tk) ≡ true
+held-over ps tk o h = go (o - 1) (map held tk) h
+  where
+    go : (i : ℕ) (ls : List (List ℕ)) → all (all (λ n. is_some (read n ps))) ls ≡ true → all (λ n. is_some (read n ps)) (get_or ls i []) ≡ true
+    go i [] k = refl
+    go zero (l ∷ ls) k = (and_parts (all (λ n. is_some (read n ps)) l) (all (all (λ n. is_some (read n ps))) ls) k).0
+    go (suc i) (l ∷ ls) k = go i ls (and_parts (all (λ n. is_some (read n ps)) l) (all (all (λ n. is_some (read n ps))) ls) k).1
 
 -- the body of a rule ------------------------------------------------------------------------------------------------
 
@@ -274,40 +272,40 @@ flat_map_alike : {X Y : Type 0} (f g : X → List Y) (xs : List X) → ((x : X) 
 flat_map_alike f g [] e = refl
 flat_map_alike f g (x ∷ xs) e = λ i. e x i ++ flat_map_alike f g xs e i
 
-body_is : (s : System) (σ : Setting) (r : Rule) (ts : List (List Pair)) (ps : List Pair) (t u : Taken) → Found ps ts t u →
-    all_values (map (given s σ []) r.gives ++ flat_map (given_over s σ ps t u) r.givealls) ≡ body s σ r (map facts ts)
-body_is s σ r ts ps t u f =
-    let e = flat_map_alike (given_over s σ ps t u) (λ g. map (λ f. given s σ f.words g.each) (get_or (map facts ts) (g.over - 1) [])) r.givealls (λ g. ap (map (λ f. given s σ f.words g.each)) (f.facts_over g.over)) in
+body_is : (s : System) (σ : Setting) (r : Rule) (ts : List (List Pair)) (ps : List Pair) (tk : List Taken) → Found ps ts tk →
+    all_values (map (given s σ []) r.gives ++ flat_map (given_over s σ ps tk) r.givealls) ≡ body s σ r (map facts ts)
+body_is s σ r ts ps tk f =
+    let e = flat_map_alike (given_over s σ ps tk) (λ g. map (λ f. given s σ f.words g.each) (get_or (map facts ts) (g.over - 1) [])) r.givealls (λ g. ap (map (λ f. given s σ f.words g.each)) (f.facts_over g.over)) in
     ap (λ xs. all_values (map (given s σ []) r.gives ++ xs)) e
 
-body-whole : (s : System) (σ : Setting) (r : Rule) (ts : List (List Pair)) (ps : List Pair) (t u : Taken) (old mid new : Body) → HasFacts [] old → Found ps ts t u →
-    Gives (all_values (map (given s σ []) r.gives)) old mid (Some tt) → Gives (all_values (flat_map (given_over s σ ps t u) r.givealls)) mid new (Some tt) → IsBody (body s σ r (map facts ts)) new (Some tt)
-body-whole s σ r ts ps t u old mid new h f g k =
+body-whole : (s : System) (σ : Setting) (r : Rule) (ts : List (List Pair)) (ps : List Pair) (tk : List Taken) (old mid new : Body) → HasFacts [] old → Found ps ts tk →
+    Gives (all_values (map (given s σ []) r.gives)) old mid (Some tt) → Gives (all_values (flat_map (given_over s σ ps tk) r.givealls)) mid new (Some tt) → IsBody (body s σ r (map facts ts)) new (Some tt)
+body-whole s σ r ts ps tk old mid new h f g k =
     let xs = map (given s σ []) r.gives in
-    let ys = flat_map (given_over s σ ps t u) r.givealls in
+    let ys = flat_map (given_over s σ ps tk) r.givealls in
     let e = values_append old mid xs ys (values_from old mid xs g) ∙ values_from mid new ys k in
-    subst (λ o. IsBody o new (Some tt)) (body_is s σ r ts ps t u f) (body_from old (all_values (xs ++ ys)) new h e)
+    subst (λ o. IsBody o new (Some tt)) (body_is s σ r ts ps tk f) (body_from old (all_values (xs ++ ys)) new h e)
 
-pub body_stops : (s : System) (σ : Setting) (r : Rule) (ts : List (List Pair)) (ps : List Pair) (t u : Taken) (old mid : Body) → Found ps ts t u →
+pub body_stops : (s : System) (σ : Setting) (r : Rule) (ts : List (List Pair)) (ps : List Pair) (tk : List Taken) (old mid : Body) → Found ps ts tk →
     Gives (all_values (map (given s σ []) r.gives)) old mid None → IsBody (body s σ r (map facts ts)) mid None
-body_stops s σ r ts ps t u old mid f g =
+body_stops s σ r ts ps tk old mid f g =
     let xs = map (given s σ []) r.gives in
-    let ys = flat_map (given_over s σ ps t u) r.givealls in
+    let ys = flat_map (given_over s σ ps tk) r.givealls in
     let e = values_stop old xs ys (values_not old mid xs g) in
-    subst (λ o. IsBody o mid None) (body_is s σ r ts ps t u f) (no_body old mid (all_values (xs ++ ys)) e)
+    subst (λ o. IsBody o mid None) (body_is s σ r ts ps tk f) (no_body old mid (all_values (xs ++ ys)) e)
 
-body_stops_later : (s : System) (σ : Setting) (r : Rule) (ts : List (List Pair)) (ps : List Pair) (t u : Taken) (old mid new : Body) → Found ps ts t u →
-    Gives (all_values (map (given s σ []) r.gives)) old mid (Some tt) → Gives (all_values (flat_map (given_over s σ ps t u) r.givealls)) mid new None → IsBody (body s σ r (map facts ts)) new None
-body_stops_later s σ r ts ps t u old mid new f g k =
+body_stops_later : (s : System) (σ : Setting) (r : Rule) (ts : List (List Pair)) (ps : List Pair) (tk : List Taken) (old mid new : Body) → Found ps ts tk →
+    Gives (all_values (map (given s σ []) r.gives)) old mid (Some tt) → Gives (all_values (flat_map (given_over s σ ps tk) r.givealls)) mid new None → IsBody (body s σ r (map facts ts)) new None
+body_stops_later s σ r ts ps tk old mid new f g k =
     let xs = map (given s σ []) r.gives in
-    let ys = flat_map (given_over s σ ps t u) r.givealls in
+    let ys = flat_map (given_over s σ ps tk) r.givealls in
     let e = values_append old mid xs ys (values_from old mid xs g) ∙ values_not mid new ys k in
-    subst (λ o. IsBody o new None) (body_is s σ r ts ps t u f) (no_body old new (all_values (xs ++ ys)) e)
+    subst (λ o. IsBody o new None) (body_is s σ r ts ps tk f) (no_body old new (all_values (xs ++ ys)) e)
 
-pub body-ends : (s : System) (σ : Setting) (r : Rule) (ts : List (List Pair)) (ps : List Pair) (t u : Taken) (old mid new : Body) (a : Option (Unit {0})) → HasFacts [] old → Found ps ts t u →
-    Gives (all_values (map (given s σ []) r.gives)) old mid (Some tt) → Gives (all_values (flat_map (given_over s σ ps t u) r.givealls)) mid new a → IsBody (body s σ r (map facts ts)) new a
-body-ends s σ r ts ps t u old mid new (Some tt) h f g k = body-whole s σ r ts ps t u old mid new h f g k
-body-ends s σ r ts ps t u old mid new None h f g k = body_stops_later s σ r ts ps t u old mid new f g k
+pub body-ends : (s : System) (σ : Setting) (r : Rule) (ts : List (List Pair)) (ps : List Pair) (tk : List Taken) (old mid new : Body) (a : Option (Unit {0})) → HasFacts [] old → Found ps ts tk →
+    Gives (all_values (map (given s σ []) r.gives)) old mid (Some tt) → Gives (all_values (flat_map (given_over s σ ps tk) r.givealls)) mid new a → IsBody (body s σ r (map facts ts)) new a
+body-ends s σ r ts ps tk old mid new (Some tt) h f g k = body-whole s σ r ts ps tk old mid new h f g k
+body-ends s σ r ts ps tk old mid new None h f g k = body_stops_later s σ r ts ps tk old mid new f g k
 
 -- what was given, counted
 pub gives-count : (old new : Body) (os : List (Option Fact)) → Gives (all_values os) old new (Some tt) → new.count ≡ old.count + length os

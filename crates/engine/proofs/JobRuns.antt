@@ -14,12 +14,6 @@ use Rattle.engine.specs.Jobs.{IsOutcome, IsRun}
 abbrev pub further : ℕ → ℕ → Ran → Ran
 further n a r = record { state = r.state; end = r.end; steps = n + r.steps; applications = a + r.applications; list = r.list }
 
-pub further_none : (r : Ran) → r ≡ further 0 0 r
-further_none r =
-    let e : 0 + r.steps ≡ r.steps = omega arith in
-    let f : 0 + r.applications ≡ r.applications = omega arith in
-    rw (e, f) refl
-
 further_more : (n a : ℕ) (y : Answer) (r : Ran) → further n a (after_step y r) ≡ further (n + 1) (a + applications_of y) r
 further_more n a y r =
     let e : n + suc r.steps ≡ n + 1 + r.steps = omega arith in
@@ -29,9 +23,6 @@ further_more n a y r =
 run_quiet : (fr : Frame) (n : ℕ) (ns : List ℕ) (st : State) → no_goal st ≡ true → run_on fr n ns st ≡ ended ends.Quiet ns st
 run_quiet fr zero ns st e = rw e refl
 run_quiet fr (suc n) ns st e = rw e refl
-
-run_spent : (fr : Frame) (ns : List ℕ) (st : State) → no_goal st ≡ false → run_on fr 0 ns st ≡ ended ends.Spent ns st
-run_spent fr ns st e = rw e refl
 
 run_stopped : (fr : Frame) (n : ℕ) (ns : List ℕ) (st : State) (e : StepFault) → 0 < n → no_goal st ≡ false → (step fr ns st).answer ≡ Refused e → run_on fr n ns st ≡ ended (ends.Stopped e) ns st
 run_stopped fr zero ns st e h g r = absurd (omega arith)
@@ -64,11 +55,6 @@ pub record IsRunTo (fr : Frame) (budget : ℕ) (ns : List ℕ) (st : State) (tak
   pub few : applied ≤ taken
   pub same : run_on fr budget ns st ≡ further taken applied (run_on fr (budget - taken) ns' st')
 
-pub run_starts : (fr : Frame) (budget : ℕ) (ns : List ℕ) (st : State) → IsRunTo fr budget ns st 0 0 ns st
-run_starts fr budget ns st =
-    let e : budget - 0 ≡ budget = omega arith in
-    record { allowed = omega arith; few = omega arith; same = rw e (further_none (run_on fr budget ns st)) }
-
 finished : (fr : Frame) (budget : ℕ) (ns ns' : List ℕ) (st st' : State) (n a : ℕ) (e : End) → fr.capacity ≤ length ns → IsRunTo fr budget ns st n a ns' st' → run_on fr (budget - n) ns' st' ≡ ended e ns' st' → IsRun (run fr ns budget st) st' e n a ns'
 finished fr budget ns ns' st st' n a e wide r h =
     let test : ltb (length ns) fr.capacity ≡ false = grind (arith, nat_tests) in
@@ -77,11 +63,6 @@ finished fr budget ns ns' st st' n a e wide r h =
 
 pub ends_quiet : (fr : Frame) (budget : ℕ) (ns ns' : List ℕ) (st st' : State) (n a : ℕ) → fr.capacity ≤ length ns → IsRunTo fr budget ns st n a ns' st' → no_goal st' ≡ true → IsRun (run fr ns budget st) st' ends.Quiet n a ns'
 ends_quiet fr budget ns ns' st st' n a wide r g = finished fr budget ns ns' st st' n a ends.Quiet wide r (run_quiet fr (budget - n) ns' st' g)
-
-pub ends_spent : (fr : Frame) (budget : ℕ) (ns ns' : List ℕ) (st st' : State) (n a : ℕ) → fr.capacity ≤ length ns → IsRunTo fr budget ns st n a ns' st' → n ≡ budget → no_goal st' ≡ false → IsRun (run fr ns budget st) st' ends.Spent n a ns'
-ends_spent fr budget ns ns' st st' n a wide r e g =
-    let none : budget - n ≡ 0 = omega arith in
-    finished fr budget ns ns' st st' n a ends.Spent wide r (rw none (run_spent fr ns' st' g))
 
 pub ends_stopped : (fr : Frame) (budget : ℕ) (ns ns' : List ℕ) (st st' : State) (n a : ℕ) (e : StepFault) (st'' : State) (ns'' : List ℕ) (y : Answer) (fr' : Frame) → fr' ≡ fr → fr.capacity ≤ length ns → IsRunTo fr budget ns st n a ns' st' → (n ≡ budget → ⊥) → no_goal st' ≡ false → IsOutcome (step fr' ns' st') st'' y ns'' → y ≡ Refused e → IsRun (run fr ns budget st) st'' (ends.Stopped e) n a ns''
 ends_stopped fr budget ns ns' st st' n a e st'' ns'' y fr' k wide r h g p z =

@@ -1,4 +1,3 @@
-pub mod Bindings
 pub mod JobRuns
 pub mod Outcomes
 pub mod Seen
@@ -24,3 +23,4 @@ pub mod ApplyGone
 pub mod ApplyLabels
 pub mod Tests
 pub mod Rooms
+pub mod Gets

@@ -1,20 +1,23 @@
 -- The steps of the search as its functions take them.
-use Rattle.std.proofs.Common.{◌≡◌, ℕ, suc, ◌+◌, ◌<◌, ◌≤◌, Bool, true, false, cond, ◌&&◌, ◌||◌, eqb, List, [], ◌∷◌, ◌++◌, length, get_or, set, take, drop, Some, None, Option, is_some, sym, refl, ap, subst, ◌∙◌, arith, add-one, length-set}
-use Rattle.std.proofs.lemmas.List.{take_more_set, at_drop_more, get_or-take, length-take-le}
-use Rattle.std.proofs.lemmas.Bool.{ne_eqb, eq-eqb, or_left, or_right}
+use Rattle.std.proofs.Common.{◌≡◌, ℕ, ◌+◌, ◌<◌, ◌≤◌, Bool, true, false, cond, ◌||◌, List, [], ◌∷◌, ◌++◌, length, get_or, set, take, Some, None, Option, sym, refl, ap, subst, ◌∙◌, arith, add-one, length-set}
+use Rattle.std.proofs.lemmas.List.{take_more_set, length-take-le}
+use Rattle.std.proofs.lemmas.Bool.{ne_eqb}
 use Rattle.std.specs.Bool.{then_some}
 use Rattle.facts.specs.System.{System}
 use Rattle.facts.specs.declared.fact_types.Fact.{Fact}
 use Rattle.rules.specs.declared.rule_types.Pattern.{Pattern}
 use Rattle.rules.specs.declared.rule_types.RuleRecord.{RuleRecord}
 use Rattle.lists.specs.Held.{held}
+use Rattle.lists.proofs.Held.{held-count}
+use Rattle.std.specs.List.{slice_get}
+use Rattle.std.proofs.lemmas.Option.{slice_get_within, get_or_from_slice_get}
 use Rattle.rules.specs.Rules.{Rule, rule_seen, all}
 use Rattle.rules.specs.Closed.{heads_of, accepted, rule_verdict, every_word}
 use Rattle.rules.proofs.Records.{singles-seen, singles-count}
 use Rattle.stores.specs.Lists.{has}
-use Rattle.stores.specs.Store.{Pair, labels, facts, read, next_that}
+use Rattle.stores.specs.Store.{Pair, read, next_that}
 use Rattle.engine.specs.declared.search.Choice.{Choice}
-use Rattle.machine.specs.Fitting.{holds, setting_of}
+use Rattle.machine.specs.Fitting.{holds}
 use Rattle.engine.specs.Letters.{Letters, unbound, setting_in, bind_fact}
 use Rattle.machine.specs.Machine.{chosen}
 use Rattle.engine.specs.Searching.{no_head, head_at, pairs_at, or_next, found_from, found_above, extended, IsExtended, IsFound, IsPartial, is_candidate, candidates_stand}
@@ -30,20 +33,6 @@ pub longer : (o : Option Letters) (old : Choice) (at n : ℕ) (m : Letters) → 
 longer o old at n m e h k =
     subst (λ (x : Option Letters). IsExtended x old at n (Some (record { labels = set old.labels at n; letters = m }))) (sym e)
     (refl, ap (λ (j : ℕ). take j (set old.labels at n)) (sym (add-one at)) ∙ take_more_set old.labels at n (omega arith), length-set old.labels at n ∙ k)
-
--- heads with candidates are passed one by one
-module _ (ps : List Pair) (l : Letters) (place : ℕ) (hs : List Pattern) (at : ℕ) (h : at < length hs) where
-  stand-more : (eqb at place || is_some (next_that (is_candidate l (get_or hs at no_head)) 0 ps)) ≡ true → candidates_stand ps l place at (drop at hs) ≡ candidates_stand ps l place (at + 1) (drop (at + 1) hs)
-  stand-more e =
-      at_drop_more (candidates_stand ps l place at) hs at no_head h
-      ∙ (ap (λ (b : Bool). b && candidates_stand ps l place (suc at) (drop (at + 1) hs)) e
-      ∙ ap (λ (j : ℕ). candidates_stand ps l place j (drop (at + 1) hs)) (sym (add-one at)))
-
-  pub stand-here : (b : Bool) → b ≡ candidates_stand ps l place at (drop at hs) → at ≡ place → b ≡ candidates_stand ps l place (at + 1) (drop (at + 1) hs)
-  stand-here b i e = i ∙ stand-more (or_left (eqb at place) (is_some (next_that (is_candidate l (get_or hs at no_head)) 0 ps)) (eq-eqb at place e))
-
-  pub stand-other : (b : Bool) → b ≡ candidates_stand ps l place at (drop at hs) → (o : Option ℕ) → o ≡ next_that (is_candidate l (get_or hs at no_head)) 0 ps → is_some o ≡ true → b ≡ candidates_stand ps l place (at + 1) (drop (at + 1) hs)
-  stand-other b i o e t = i ∙ stand-more (or_right (eqb at place) (is_some (next_that (is_candidate l (get_or hs at no_head)) 0 ps)) (ap is_some (sym e) ∙ t))
 
 -- what a longer choice is
 extended-parts : (o : Option Letters) (old : Choice) (at n : ℕ) (x : Choice) → IsExtended o old at n (Some x) → (o ≡ Some x.letters) × (take (at + 1) x.labels ≡ take at old.labels ++ (n ∷ []))
@@ -104,9 +93,9 @@ module _ (s : System) (rr : RuleRecord) (place active : ℕ) (ps : List Pair) (c
   end-answer h false e = end-none h e
 
   -- the place of the active label
-  module _ (e : at ≡ place) (h : at < rr.singles.count) where
+  module _ (e : at ≡ place) (head : Pattern) (there : slice_get (held rr.singles) at ≡ Some head) where
     one-more : take (at + 1) (set choice.labels at active) ≡ begins ++ (active ∷ [])
-    one-more = take_more_set choice.labels at active (omega (arith, rr.singles.few))
+    one-more = take_more_set choice.labels at active (omega (arith, rr.singles.few, slice_get_within (held rr.singles) at head there, held-count rr.singles))
 
     pub place_partial : IsPartial ps r place active (take (at + 1) (set choice.labels at active)) choice.letters
     place_partial =
@@ -119,19 +108,19 @@ module _ (s : System) (rr : RuleRecord) (place active : ℕ) (ps : List Pair) (c
         subst (λ (o : Option (List Pair)). IsFound r o x) (sym k) f
 
   -- another place
-  module _ (h : at < rr.singles.count) (rise : Rising 0 ps) where
+  module _ (head : Pattern) (there : slice_get (held rr.singles) at ≡ Some head) (rise : Rising 0 ps) where
     room : length begins < heads_of r
-    room = omega (arith, count, heads)
+    room = omega (arith, count, heads, slice_get_within (held rr.singles) at head there, held-count rr.singles)
 
-    pattern : head_at r (length begins) ≡ get_or rr.singles.items at no_head
+    pattern : head_at r (length begins) ≡ head
     pattern =
         ap (head_at r) count
-        ∙ (ap (λ (hs : List Pattern). get_or hs at no_head) (singles-seen rr) ∙ get_or-take rr.singles.count rr.singles.items at no_head h)
+        ∙ (ap (λ (hs : List Pattern). get_or hs at no_head) (singles-seen rr) ∙ get_or_from_slice_get (held rr.singles) at head no_head there)
 
     pub loop_start : found ≡ found_over 0
     loop_start = above-start s r place active ps begins choice.letters w room rise
 
-    module _ (above : ℕ) (o : Option ℕ) (k : o ≡ next_that (is_candidate choice.letters (get_or rr.singles.items at no_head)) above ps) where
+    module _ (above : ℕ) (o : Option ℕ) (k : o ≡ next_that (is_candidate choice.letters head) above ps) where
       seen-next : next_that (is_candidate choice.letters (head_at r (length begins))) above ps ≡ o
       seen-next = ap (λ (p : Pattern). next_that (is_candidate choice.letters p) above ps) pattern ∙ sym k
 
@@ -147,18 +136,18 @@ module _ (s : System) (rr : RuleRecord) (place active : ℕ) (ps : List Pair) (c
         apart : length begins ≡ place → ⊥
         apart q = other (sym count ∙ q)
 
-        seen-extended : {y : Option Letters} → extended ps (get_or rr.singles.items at no_head) active begins choice.letters n ≡ y → extended ps (head_at r (length begins)) active begins choice.letters n ≡ y
+        seen-extended : {y : Option Letters} → extended ps head active begins choice.letters n ≡ y → extended ps (head_at r (length begins)) active begins choice.letters n ≡ y
         seen-extended q = ap (λ (p : Pattern). extended ps p active begins choice.letters n) pattern ∙ q
 
-        pub loop_refused : IsExtended (extended ps (get_or rr.singles.items at no_head) active begins choice.letters n) choice at n None →
+        pub loop_refused : IsExtended (extended ps head active begins choice.letters n) choice at n None →
             found ≡ found_over above → found ≡ found_over n
         loop_refused x i =
             i ∙ refused s r place active ps begins choice.letters w room rise apart above n (seen-next ∙ e)
-            (seen-extended (extended-not (extended ps (get_or rr.singles.items at no_head) active begins choice.letters n) choice at n x))
+            (seen-extended (extended-not (extended ps head active begins choice.letters n) choice at n x))
 
-        module _ (m : Choice) (x : IsExtended (extended ps (get_or rr.singles.items at no_head) active begins choice.letters n) choice at n (Some m)) where
-          parts : (extended ps (get_or rr.singles.items at no_head) active begins choice.letters n ≡ Some m.letters) × (take (at + 1) m.labels ≡ begins ++ (n ∷ []))
-          parts = extended-parts (extended ps (get_or rr.singles.items at no_head) active begins choice.letters n) choice at n m x
+        module _ (m : Choice) (x : IsExtended (extended ps head active begins choice.letters n) choice at n (Some m)) where
+          parts : (extended ps head active begins choice.letters n ≡ Some m.letters) × (take (at + 1) m.labels ≡ begins ++ (n ∷ []))
+          parts = extended-parts (extended ps head active begins choice.letters n) choice at n m x
 
           pub loop_partial : IsPartial ps r place active (take (at + 1) m.labels) m.letters
           loop_partial =
@@ -185,22 +174,22 @@ module _ (s : System) (rr : RuleRecord) (place active : ℕ) (ps : List Pair) (c
 
 -- the whole search ------------------------------------------------------------------------------------------------------
 
-module _ (s : System) (rr : RuleRecord) (place active : ℕ) (ps : List Pair) (f : Fact) (h : place < rr.singles.count) (stands : accepted (rule_verdict every_word (rule_seen rr)) ≡ true) (a : read active ps ≡ Some f) (rise : Rising 0 ps) where
+module _ (s : System) (rr : RuleRecord) (place active : ℕ) (ps : List Pair) (f : Fact) (heads : List Pattern) (same : heads ≡ held rr.singles) (h : place < rr.singles.count) (stands : accepted (rule_verdict every_word (rule_seen rr)) ≡ true) (a : read active ps ≡ Some f) (rise : Rising 0 ps) where
   abbrev rule : Rule
   rule = rule_seen rr
 
   place_in : place < heads_of rule
   place_in = omega (arith, singles-count rr)
 
-  first-head : head_at rule place ≡ get_or rr.singles.items place no_head
-  first-head = ap (λ (hs : List Pattern). get_or hs place no_head) (singles-seen rr) ∙ get_or-take rr.singles.count rr.singles.items place no_head h
+  first-head : head_at rule place ≡ get_or heads place no_head
+  first-head = ap (λ (hs : List Pattern). get_or hs place no_head) (singles-seen rr ∙ sym same)
 
-  pub search_unbound : bind_fact unbound (get_or rr.singles.items place no_head) f ≡ None → IsFound rule (chosen s rule place active ps) None
+  pub search_unbound : bind_fact unbound (get_or heads place no_head) f ≡ None → IsFound rule (chosen s rule place active ps) None
   search_unbound e =
       let k = unbound-chosen s rule place active ps rise place_in stands f a (ap (λ (p : Pattern). bind_fact unbound p f) first-head ∙ e) in
       subst (λ (o : Option (List Pair)). IsFound rule o None) (sym k) tt
 
-  module _ (m : Letters) (e : bind_fact unbound (get_or rr.singles.items place no_head) f ≡ Some m) where
+  module _ (m : Letters) (e : bind_fact unbound (get_or heads place no_head) f ≡ Some m) where
     first-bound : bind_fact unbound (head_at rule place) f ≡ Some m
     first-bound = ap (λ (p : Pattern). bind_fact unbound p f) first-head ∙ e
 
@@ -214,19 +203,3 @@ module _ (s : System) (rr : RuleRecord) (place active : ℕ) (ps : List Pair) (f
 
   pub search_found : (x : Option Choice) → IsFound rule (found_from s rule place active ps []) x → IsFound rule (chosen s rule place active ps) x
   search_found x k = subst (λ (o : Option (List Pair)). IsFound rule o x) (start-found s rule place active ps rise) k
-
--- what a caller learns of an answer ---------------------------------------------------------------------------------------
-
-pub record Chosen (r : Rule) (o : Option (List Pair)) (x : Choice) : Type 0 where
-  pub pairs : List Pair
-  pub is : o ≡ Some pairs
-  pub labels_are : take (heads_of r) x.labels ≡ labels pairs
-  pub setting_is : setting_in x.letters ≡ setting_of r (facts pairs)
-
-pub answered-some : (r : Rule) (o : Option (List Pair)) (x : Choice) → IsFound r o (Some x) → Chosen r o x
-answered-some r None x h = elim h [ ]
-answered-some r (Some c) x h = record { pairs = c; is = refl; labels_are = h.0; setting_is = h.1 }
-
-pub answered-none : (r : Rule) (o : Option (List Pair)) → IsFound r o None → o ≡ None
-answered-none r None h = refl
-answered-none r (Some c) h = elim h [ ]

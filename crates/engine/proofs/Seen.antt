@@ -1,16 +1,16 @@
 -- Facts are brought in one after the other.
-use Rattle.std.proofs.Common.{◌≡◌, ℕ, zero, suc, ◌+◌, ◌-◌, ◌<◌, ◌≤◌, true, false, cond, not, ◌&&◌, List, [], ◌∷◌, ◌++◌, map, length, Ok, length-append, get_or, drop, refl, sym, ap, ◌∙◌, arith}
+use Rattle.std.proofs.Common.{◌≡◌, ℕ, zero, suc, ◌+◌, ◌-◌, ◌<◌, ◌≤◌, true, false, cond, not, ◌&&◌, List, [], ◌∷◌, ◌++◌, map, length, length-append, get_or, drop, refl, sym, ap, ◌∙◌, arith}
 use Rattle.std.proofs.Math.Seq.{drop-cons}
 use Rattle.std.proofs.Math.Numerals.{add-one}
 use Rattle.std.proofs.lemmas.Bool.Decides.{nat_tests}
-use Rattle.std.proofs.lemmas.Bool.{and_parts, and_from}
-use Rattle.std.proofs.lemmas.List.{length-map, append_assoc, append-nil, map-append}
+use Rattle.std.proofs.lemmas.Bool.{and_parts}
+use Rattle.std.proofs.lemmas.List.{length-map}
 use Rattle.std.proofs.lemmas.List.Elements.{filter-append}
 use Rattle.facts.specs.declared.fact_types.Fact.{Fact}
 use Rattle.rules.specs.Rules.{Rule, all}
 use Rattle.rules.specs.Closed.{watched}
 use Rattle.stores.specs.Piles.{Pile, with_pairs}
-use Rattle.stores.specs.Store.{Pair, last_label, placed, placed_all, put_answer}
+use Rattle.stores.specs.Store.{Pair, placed, placed_all}
 use Rattle.machine.specs.Machine.{State, seen, unseen, numbered, looks, bring}
 use Rattle.machine.specs.declared.goal_types.Goal.{Goal}
 use Rattle.machine.specs.declared.goal_types.Goal.TheVariants.{Wait, Look}
@@ -30,10 +30,6 @@ pub length_placed : (l : ℕ) (f : Fact) (ps : List Pair) → length (placed l f
 length_placed l f [] = omega arith
 length_placed l f (p ∷ ps) = let ih = length_placed l f ps in grind (arith, nat_tests)
 
--- a fact for which there is room is put
-pub put_fits : (l : ℕ) (f : Fact) (m : Pile) → has_kind f ≡ true → 1 ≤ l → l ≤ last_label → length m.pairs < m.capacity → put_answer m.capacity l f m.pairs ≡ Ok tt
-put_fits l f m k a b r = grind (arith, nat_tests)
-
 -- some facts are stored, and those from an index on are to come
 pub record IsStoredTo (rs : List Rule) (fs : List Fact) (i : ℕ) (was now : Pile) (first last : ℕ) : Type 0 where
   pub kinds : all has_kind (drop i fs) ≡ true
@@ -41,9 +37,6 @@ pub record IsStoredTo (rs : List Rule) (fs : List Fact) (i : ℕ) (was now : Pil
   pub capacity : now.capacity ≡ was.capacity
   pub room : length now.pairs + length (seen rs (drop i fs)) ≤ now.capacity
   pub pairs : placed_all (numbered last (seen rs (drop i fs))) now.pairs ≡ placed_all (numbered first (seen rs fs)) was.pairs
-
-pub kind_here : (fs : List Fact) (i : ℕ) (d : Fact) → i < length fs → all has_kind (drop i fs) ≡ true → has_kind (get_or fs i d) ≡ true
-kind_here fs i d h k = (and_parts (has_kind (get_or fs i d)) (all has_kind (drop (i + 1) fs)) (sym (kinds_more fs i d h) ∙ k)).0
 
 kinds_behind : (fs : List Fact) (i : ℕ) (d : Fact) → i < length fs → all has_kind (drop i fs) ≡ true → all has_kind (drop (i + 1) fs) ≡ true
 kinds_behind fs i d h k = (and_parts (has_kind (get_or fs i d)) (all has_kind (drop (i + 1) fs)) (sym (kinds_more fs i d h) ∙ k)).1
@@ -102,39 +95,13 @@ pub record IsWaiting (rs : List Rule) (fs rest : List Fact) (was now : List Goal
   pub kinds : all has_kind rest ≡ true
   pub goals : map Wait (unseen rs rest) ++ now ≡ map Wait (unseen rs fs) ++ was
 
-all-front : (xs : List Fact) (x : Fact) → all has_kind (xs ++ x ∷ []) ≡ true → (all has_kind xs ≡ true) × (has_kind x ≡ true)
-all-front [] x h = (refl, (and_parts (has_kind x) true h).0)
-all-front (y ∷ xs) x h =
-    let a = and_parts (has_kind y) (all has_kind (xs ++ x ∷ [])) h in
-    let ih = all-front xs x a.1 in
-    (and_from (has_kind y) (all has_kind xs) a.0 ih.0, ih.1)
-
 module _ (rs : List Rule) (fs all' rest : List Fact) (x : Fact) (was now : List Goal) (e : all' ≡ rest ++ x ∷ []) (w : IsWaiting rs fs all' was now) where
-  kinds-front : (all has_kind rest ≡ true) × (has_kind x ≡ true)
-  kinds-front = all-front rest x (ap (all has_kind) (sym e) ∙ w.kinds)
-
-  pub wait_kind : has_kind x ≡ true
-  wait_kind = kinds-front.1
-
   parts : unseen rs all' ≡ unseen rs rest ++ cond (not (watched rs x)) (x ∷ []) []
   parts = ap (unseen rs) e ∙ filter-append (λ f. not (watched rs f)) rest (x ∷ [])
-
-  pub wait_same : watched rs x ≡ true → IsWaiting rs fs rest was now
-  wait_same h =
-      let q : unseen rs all' ≡ unseen rs rest = parts ∙ (ap (λ b. unseen rs rest ++ cond (not b) (x ∷ []) []) h ∙ append-nil (unseen rs rest)) in
-      record { kinds = kinds-front.0; goals = ap (λ gs. map Wait gs ++ now) (sym q) ∙ w.goals }
 
   module _ (h : watched rs x ≡ false) where
     one : unseen rs all' ≡ unseen rs rest ++ (x ∷ [])
     one = parts ∙ ap (λ b. unseen rs rest ++ cond (not b) (x ∷ []) []) h
-
-    pub wait_more : IsWaiting rs fs rest was (Wait x ∷ now)
-    wait_more = record {
-      kinds = kinds-front.0;
-      goals =
-          sym (append_assoc (map Wait (unseen rs rest)) (Wait x ∷ []) now)
-          ∙ (ap (λ gs. gs ++ now) (sym (map-append Wait (unseen rs rest) (x ∷ [])) ∙ ap (map Wait) (sym one)) ∙ w.goals);
-    }
 
     pub wait_fits : length was + length (unseen rs fs) ≤ 512 → length now < 512
     wait_fits room =

@@ -1,7 +1,12 @@
 -- What an all head takes of stored pairs, label by label.
-use Rattle.std.proofs.Common.{◌≡◌, ℕ, zero, suc, ◌+◌, ◌<◌, ◌≤◌, Bool, true, false, cond, not, ◌&&◌, eqb, leb, List, [], ◌∷◌, ◌++◌, map, length, get_or, take, drop, flat_map, ℤ, pos, negsuc, Some, None, filter, Option, sym, refl, ap, ◌∙◌, arith}
+use Rattle.std.proofs.Common.{◌≡◌, ℕ, zero, suc, ◌+◌, ◌*◌, ◌⊎◌, inl, inr, ◌<◌, ◌≤◌, Bool, true, false, cond, not, ◌&&◌, ◌||◌, eqb, leb, List, [], ◌∷◌, ◌++◌, map, length, get_or, set, take, drop, flat_map, ℤ, pos, negsuc, Some, None, filter, Option, sym, refl, ap, ◌∙◌, arith}
 use Rattle.std.proofs.lemmas.Bool.{and_parts, eqb-true}
-use Rattle.std.proofs.lemmas.List.{get_or_default, get_or-map, get_or-take, length-take-le, length-append, length-map, length_push, length-drop, map-append, append-nil, get_or_past}
+use Rattle.std.specs.List.{slice_get, sum_by, zip}
+use Rattle.std.proofs.lemmas.Option.{slice_get_within, get_or_from_slice_get}
+use Rattle.std.proofs.lemmas.List.Sums.{sum_by-cons}
+use Rattle.lists.specs.Held.{held}
+use Rattle.lists.proofs.Held.{held-count}
+use Rattle.std.proofs.lemmas.List.{take-map, get_or-map, length-append, length-map, length_push, length-drop, append-nil, get_or_past}
 use Rattle.std.proofs.lemmas.Bool.Decides.{nat_tests}
 use Rattle.facts.specs.System.{System}
 use Rattle.facts.specs.declared.fact_types.Fact.{Fact}
@@ -9,10 +14,6 @@ use Rattle.rules.specs.declared.rule_types.Argument.{Argument}
 use Rattle.rules.specs.declared.rule_types.Argument.TheVariants.{Letter, Constant, Any}
 use Rattle.rules.specs.declared.rule_types.Pattern.{Pattern}
 use Rattle.rules.specs.declared.rule_types.AllRecord.{AllRecord}
-use Rattle.rules.specs.declared.rule_types.Comparison.{Comparison}
-use Rattle.rules.specs.declared.rule_types.Term.TheVariants.{One}
-use Rattle.rules.specs.declared.rule_types.Operand.TheVariants as operand
-use Rattle.facts.specs.declared.fact_types.Relation.TheVariants.{Equal}
 use Rattle.rules.proofs.Records.{alls-count}
 use Rattle.rules.specs.Rules.{AllHead, Rule, all_seen, rule_seen, singles}
 use Rattle.rules.specs.declared.rule_types.RuleRecord.{RuleRecord}
@@ -25,7 +26,8 @@ use Rattle.stores.proofs.Pairs.{above, all_above, next-above, length-kept}
 use Rattle.machine.specs.Fitting.{Setting, fits_words, fits, holds, fits_all_head, setting_of}
 use Rattle.engine.specs.Letters.{Letters, setting_in}
 use Rattle.engine.specs.Searching.{known_word, of_kind_and, is_candidate}
-use Rattle.engine.specs.Taking.{takes, taken_at, takes_label, all_taken, Taken, taken_labels, Took, gone_at, gone_number}
+use Rattle.engine.specs.Taking.{takes, taken_by_head, takes_label, all_taken, Taken, two, Took, gone_number}
+use Rattle.machine.proofs.Parts.{gone-alls-map}
 use Rattle.machine.specs.Machine.{taken_by, taken_of, gone_alls, gone_of}
 
 -- the pairs that pass, up to a label
@@ -79,11 +81,6 @@ sameℤ_sym (pos a) (negsuc b) = refl
 sameℤ_sym (negsuc a) (pos b) = refl
 sameℤ_sym (negsuc a) (negsuc b) = grind (arith, nat_tests)
 
-takes_fits : (s : System) (σ : Setting) (as' : List AllHead) (i : ℕ) (d : AllHead) (f : Fact) → takes s σ as' i f ≡ true → fits_all_head s σ (get_or as' i d) f ≡ true
-takes_fits s σ [] i d f h = grind (arith, nat_tests)
-takes_fits s σ (a ∷ as') zero d f h = h
-takes_fits s σ (a ∷ as') (suc i) d f h = takes_fits s σ as' i d f (and_parts (not (fits_all_head s σ a f)) (takes s σ as' i f) h).1
-
 first_fits : (l : Letters) (kind : ℕ) (as' : List Argument) (ws : List ℤ) → fits_words (setting_in l) as' ws ≡ true → of_kind_and kind (known_word l (get_or as' 0 Any)) (record { kind = kind; words = ws }) ≡ true
 first_fits l kind [] ws h = grind (arith, nat_tests)
 first_fits l kind (a ∷ as') [] h = grind (arith, nat_tests)
@@ -102,17 +99,10 @@ fits_candidate l p f h =
     let k = eqb-true p.kind f.kind a.0 in
     rw k e
 
-takes_candidate : (s : System) (l : Letters) (as' : List AllHead) (i : ℕ) (d : AllHead) (p : Pattern) → (get_or as' i d).pattern ≡ p → (f : Fact) → takes s (setting_in l) as' i f ≡ true → is_candidate l p f ≡ true
-takes_candidate s l as' i d p e f h =
-    let a = get_or as' i d in
-    let t = and_parts (fits (setting_in l) a.pattern f) (rules_specs.all (holds s (setting_in l) f.words) a.only) (takes_fits s (setting_in l) as' i d f h) in
-    fits_candidate l p f (ap (λ r. fits (setting_in l) r f) (sym e) ∙ t.0)
-
-seen_pattern : (rs : List AllRecord) (n i : ℕ) (d : AllRecord) → i < n → n ≤ length rs → (get_or (map all_seen (take n rs)) i (all_seen d)).pattern ≡ (get_or rs i d).pattern
-seen_pattern rs n i d h k =
-    let f = get_or-take n rs i d h in
-    let b : i < length (take n rs) = omega (arith, length-take-le n rs k) in
-    ap (λ a. a.pattern) (get_or-map all_seen (take n rs) i d (all_seen d) b ∙ ap all_seen f)
+takes_candidate : (s : System) (l : Letters) (es : List AllHead) (a : AllHead) (f : Fact) → takes s (setting_in l) es a f ≡ true → is_candidate l a.pattern f ≡ true
+takes_candidate s l es a f h =
+    let fitting = (and_parts (not (rules_specs.any (λ b. fits_all_head s (setting_in l) b f) es)) (fits_all_head s (setting_in l) a f) h).1 in
+    fits_candidate l a.pattern f (and_parts (fits (setting_in l) a.pattern f) (rules_specs.all (holds s (setting_in l) f.words) a.only) fitting).0
 
 owed-sound : (m : Pile) → Owed m → all sound_pair m.pairs ≡ true
 owed-sound m o = grind (arith, nat_tests)
@@ -122,71 +112,44 @@ owed-length m o = grind (arith, nat_tests)
 
 -- a list that is filled label by label --------------------------------------------------------------------------------
 
-took-count : (t : Taken) → t.count ≡ length (taken_labels t)
-took-count t = sym (length-take-le t.count t.items (omega (arith, t.few, t.long)))
+-- what an all head takes, up to a label
+abbrev pub taken_to : System → Letters → List AllHead → AllHead → List ℕ → ℕ → List Pair → List ℕ
+taken_to s l es h ls a ps = labels (filter (passed_to a (λ n. has n ls) (takes s (setting_in l) es h)) ps)
 
--- what the all head at an index takes, up to a label
-abbrev pub taken_to : System → Letters → List AllHead → ℕ → List ℕ → ℕ → List Pair → List ℕ
-taken_to s l as' i ls a ps = labels (filter (passed_to a (λ n. has n ls) (takes s (setting_in l) as' i)) ps)
-
-pub taken_to-first : (s : System) (l : Letters) (as' : List AllHead) (i : ℕ) (ls : List ℕ) (m : Pile) → Owed m → taken_to s l as' i ls 0 m.pairs ≡ []
-taken_to-first s l as' i ls m o = ap labels (passed_none (λ n. has n ls) (takes s (setting_in l) as' i) m.pairs (owed-sound m o))
-
-abbrev pub no_comparison : Comparison
-no_comparison = record { left = One (operand.Constant (pos 0)); relation = Equal; right = One (operand.Constant (pos 0)) }
-
--- an all head that is not there
-abbrev pub no_all : AllRecord
-no_all = record { drops = false; pattern = record { kind = 0; args = [] }; only = record { items = no_comparison ∷ (no_comparison ∷ []); count = 0; long = refl; few = omega arith } }
-
--- after a label, the next that may fit the all head at an index of a rule
-abbrev pub next_for : Letters → RuleRecord → ℕ → ℕ → List Pair → Option ℕ
-next_for l r i = next_that (is_candidate l (get_or r.alls.items i no_all).pattern)
-
-pub next_for_at : (l : Letters) (r : RuleRecord) (i a : ℕ) (ps : List Pair) (d : AllRecord) → i < r.alls.count → next_that (is_candidate l (get_or r.alls.items i d).pattern) a ps ≡ next_for l r i a ps
-next_for_at l r i a ps d h = ap (λ (x : AllRecord). next_that (is_candidate l x.pattern) a ps) (get_or_default r.alls.items i d no_all (omega (arith, r.alls.few, r.alls.long)))
-
-pub record Step (l : Letters) (r : RuleRecord) (i : ℕ) (m : Pile) (a n : ℕ) : Type 0 where
-  pub head : i < r.alls.count
+-- after a label, the next is that of a fact that may fit an all head
+pub record Step (l : Letters) (h : AllHead) (m : Pile) (a n : ℕ) : Type 0 where
   pub owed : Owed m
-  pub next : Some n ≡ next_for l r i a m.pairs
+  pub next : Some n ≡ next_that (is_candidate l h.pattern) a m.pairs
 
--- what it takes is a candidate
-takes_next : (s : System) (l : Letters) (r : RuleRecord) (i : ℕ) → i < r.alls.count → (f : Fact) → takes s (setting_in l) (rule_seen r).alls i f ≡ true → is_candidate l (get_or r.alls.items i no_all).pattern f ≡ true
-takes_next s l r i h =
-    let b : r.alls.count ≤ length r.alls.items = omega (arith, r.alls.few, r.alls.long) in
-    takes_candidate s l (rule_seen r).alls i (all_seen no_all) (get_or r.alls.items i no_all).pattern (seen_pattern r.alls.items r.alls.count i no_all h b)
+pub step_up : {l : Letters} {h : AllHead} {m : Pile} {a n : ℕ} → Step l h m a n → a < n
+step_up {l} {h} {m} {a} {n} t = next_passes (is_candidate l h.pattern) a m.pairs n (sym t.next)
 
-pub step_up : {l : Letters} {r : RuleRecord} {i : ℕ} {m : Pile} {a n : ℕ} → Step l r i m a n → a < n
-step_up {l} {r} {i} {m} {a} {n} t = next_passes (is_candidate l (get_or r.alls.items i no_all).pattern) a m.pairs n (sym t.next)
+module _ (s : System) (es : List AllHead) (ls : List ℕ) where
+  pub taken_to-first : (l : Letters) (h : AllHead) (m : Pile) → Owed m → taken_to s l es h ls 0 m.pairs ≡ []
+  taken_to-first l h m o = ap labels (passed_none (λ n. has n ls) (takes s (setting_in l) es h) m.pairs (owed-sound m o))
 
-taken_to-more : (s : System) (ls : List ℕ) {l : Letters} {r : RuleRecord} {i : ℕ} {m : Pile} {a n : ℕ} → Step l r i m a n → (answer b : Bool) → answer ≡ takes_label s (setting_in l) (rule_seen r).alls i ls m.pairs n → answer ≡ b →
-    taken_to s l (rule_seen r).alls i ls n m.pairs ≡ taken_to s l (rule_seen r).alls i ls a m.pairs ++ cond b (n ∷ []) []
-taken_to-more s ls {l} {r} {i} {m} {a} {n} t answer b e h =
-    passed_more (is_candidate l (get_or r.alls.items i no_all).pattern) (λ x. has x ls) (takes s (setting_in l) (rule_seen r).alls i) a n m.pairs (takes_next s l r i t.head) (owed-rises m t.owed) (sym t.next)
-    ∙ ap (λ x. taken_to s l (rule_seen r).alls i ls a m.pairs ++ cond x (n ∷ []) []) (sym e ∙ h)
+  module _ {l : Letters} {h : AllHead} {m : Pile} {a n : ℕ} (t : Step l h m a n) (answer : Bool) (e : answer ≡ takes_label s (setting_in l) es h ls m.pairs n) where
+    taken_to-more : (b : Bool) → answer ≡ b → taken_to s l es h ls n m.pairs ≡ taken_to s l es h ls a m.pairs ++ cond b (n ∷ []) []
+    taken_to-more b k =
+        passed_more (is_candidate l h.pattern) (λ x. has x ls) (takes s (setting_in l) es h) a n m.pairs (takes_candidate s l es h) (owed-rises m t.owed) (sym t.next)
+        ∙ ap (λ x. taken_to s l es h ls a m.pairs ++ cond x (n ∷ []) []) (sym e ∙ k)
 
-pub taken_to_room : (s : System) (ls : List ℕ) {l : Letters} {r : RuleRecord} {i : ℕ} {m : Pile} {a n : ℕ} → Step l r i m a n → (answer : Bool) → answer ≡ takes_label s (setting_in l) (rule_seen r).alls i ls m.pairs n → answer ≡ true →
-    length (taken_to s l (rule_seen r).alls i ls a m.pairs) < 1024
-taken_to_room s ls {l} {r} {i} {m} {a} {n} t answer e h =
-    let q = taken_to-more s ls t answer true e h in
-    let test : Pair → Bool = passed_to n (λ x. has x ls) (takes s (setting_in l) (rule_seen r).alls i) in
-    omega (arith, ap length q, length_push (taken_to s l (rule_seen r).alls i ls a m.pairs) n, length-map (filter test m.pairs) label, length-kept test m.pairs, owed-length m t.owed)
+    pub taken_to_room : answer ≡ true → length (taken_to s l es h ls a m.pairs) < 1024
+    taken_to_room k =
+        let q = taken_to-more true k in
+        let test : Pair → Bool = passed_to n (λ x. has x ls) (takes s (setting_in l) es h) in
+        omega (arith, ap length q, length_push (taken_to s l es h ls a m.pairs) n, length-map (filter test m.pairs) label, length-kept test m.pairs, owed-length m t.owed)
 
-pub filled-yes : (s : System) (ls : List ℕ) {l : Letters} {r : RuleRecord} {i : ℕ} {m : Pile} {a n : ℕ} → Step l r i m a n → (answer : Bool) → answer ≡ takes_label s (setting_in l) (rule_seen r).alls i ls m.pairs n → answer ≡ true → (xs ys : List ℕ) →
-    xs ≡ taken_to s l (rule_seen r).alls i ls a m.pairs → ys ≡ xs ++ n ∷ [] → ys ≡ taken_to s l (rule_seen r).alls i ls n m.pairs
-filled-yes s ls {l} {r} {i} {m} {a} {n} st answer e h xs ys f g =
-    g ∙ (ap (λ zs. zs ++ n ∷ []) f ∙ sym (taken_to-more s ls st answer true e h))
+    pub filled-yes : answer ≡ true → (xs ys : List ℕ) → xs ≡ taken_to s l es h ls a m.pairs → ys ≡ xs ++ n ∷ [] → ys ≡ taken_to s l es h ls n m.pairs
+    filled-yes k xs ys f g = g ∙ (ap (λ zs. zs ++ n ∷ []) f ∙ sym (taken_to-more true k))
 
-pub filled-no : (s : System) (ls : List ℕ) {l : Letters} {r : RuleRecord} {i : ℕ} {m : Pile} {a n : ℕ} → Step l r i m a n → (answer : Bool) → answer ≡ takes_label s (setting_in l) (rule_seen r).alls i ls m.pairs n → answer ≡ false → (xs : List ℕ) →
-    xs ≡ taken_to s l (rule_seen r).alls i ls a m.pairs → xs ≡ taken_to s l (rule_seen r).alls i ls n m.pairs
-filled-no s ls {l} {r} {i} {m} {a} {n} st answer e h xs f =
-    f ∙ sym (taken_to-more s ls st answer false e h ∙ append-nil (taken_to s l (rule_seen r).alls i ls a m.pairs))
+    pub filled-no : answer ≡ false → (xs : List ℕ) → xs ≡ taken_to s l es h ls a m.pairs → xs ≡ taken_to s l es h ls n m.pairs
+    filled-no k xs f = f ∙ sym (taken_to-more false k ∙ append-nil (taken_to s l es h ls a m.pairs))
 
-pub filled-all : (s : System) (l : Letters) (r : RuleRecord) (i : ℕ) (ls : List ℕ) (m : Pile) (a : ℕ) → i < r.alls.count → None ≡ next_for l r i a m.pairs → (xs : List ℕ) →
-    xs ≡ taken_to s l (rule_seen r).alls i ls a m.pairs → xs ≡ labels (taken_at s (setting_in l) (rule_seen r).alls i ls m.pairs)
-filled-all s l r i ls m a h e xs f =
-    f ∙ ap labels (passed_all (is_candidate l (get_or r.alls.items i no_all).pattern) (λ x. has x ls) (takes s (setting_in l) (rule_seen r).alls i) a m.pairs (takes_next s l r i h) (sym e))
+  pub filled-all : (l : Letters) (h : AllHead) (m : Pile) (a : ℕ) → None ≡ next_that (is_candidate l h.pattern) a m.pairs → (xs : List ℕ) →
+      xs ≡ taken_to s l es h ls a m.pairs → xs ≡ labels (taken_by_head s (setting_in l) es h ls m.pairs)
+  filled-all l h m a e xs f =
+      f ∙ ap labels (passed_all (is_candidate l h.pattern) (λ x. has x ls) (takes s (setting_in l) es h) a m.pairs (takes_candidate s l es h) (sym e))
 
 -- what all heads take, each in turn of what the earlier ones left --------------------------------------------------
 
@@ -198,17 +161,37 @@ filter_none : {X : Type 0} (xs : List X) → filter (λ x. false) xs ≡ []
 filter_none [] = refl
 filter_none (x ∷ xs) = filter_none xs
 
+-- the all head at an index takes a fact
+abbrev pub takes_at : System → Setting → List AllHead → ℕ → Fact → Bool
+takes_at s σ [] i f = false
+takes_at s σ (a ∷ rest) zero f = fits_all_head s σ a f
+takes_at s σ (a ∷ rest) (suc i) f = not (fits_all_head s σ a f) && takes_at s σ rest i f
+
+-- what it takes of stored pairs but those of some labels
+abbrev pub taken_at : System → Setting → List AllHead → ℕ → List ℕ → List Pair → List Pair
+taken_at s σ alls i ls ps = filter (λ p. not (has p.0 ls) && takes_at s σ alls i (fact p)) ps
+
+-- it is behind those that stand before it
+takes-at : (s : System) (σ : Setting) (as' : List AllHead) (i : ℕ) (d : AllHead) → i < length as' → (f : Fact) → takes_at s σ as' i f ≡ takes s σ (take i as') (get_or as' i d) f
+takes-at s σ [] i d h f = absurd (omega arith)
+takes-at s σ (a ∷ as') zero d h f = refl
+takes-at s σ (a ∷ as') (suc i) d h f = behind (takes-at s σ as' i d (omega arith) f) (fits_all_head s σ a f)
+  where
+    behind : takes_at s σ as' i f ≡ takes s σ (take i as') (get_or as' i d) f → (b : Bool) → (not b && takes_at s σ as' i f) ≡ (not (b || rules_specs.any (λ c. fits_all_head s σ c f) (take i as')) && fits_all_head s σ (get_or as' i d) f)
+    behind e true = refl
+    behind e false = e
+
 -- list number i is what the all head at i takes
-pub taken_by_list : (s : System) (σ : Setting) (as' : List AllHead) (i : ℕ) (ps : List Pair) → get_or (taken_by s σ as' ps) i [] ≡ filter (λ p. takes s σ as' i (fact p)) ps
+pub taken_by_list : (s : System) (σ : Setting) (as' : List AllHead) (i : ℕ) (ps : List Pair) → get_or (taken_by s σ as' ps) i [] ≡ filter (λ p. takes_at s σ as' i (fact p)) ps
 taken_by_list s σ [] i ps = sym (filter_none ps)
 taken_by_list s σ (a ∷ as') zero ps = refl
 taken_by_list s σ (a ∷ as') (suc i) ps =
     let rest : Pair → Bool = λ p. not (fits_all_head s σ a (fact p)) in
-    taken_by_list s σ as' i (filter rest ps) ∙ filter-filter rest (λ p. takes s σ as' i (fact p)) ps
+    taken_by_list s σ as' i (filter rest ps) ∙ filter-filter rest (λ p. takes_at s σ as' i (fact p)) ps
 
 pub all_taken-at : (s : System) (σ : Setting) (r : Rule) (ls : List ℕ) (ps : List Pair) (i : ℕ) → get_or (all_taken s σ r ls ps) i [] ≡ taken_at s σ r.alls i ls ps
 all_taken-at s σ r ls ps i =
-    taken_by_list s σ r.alls i (without ls ps) ∙ filter-filter (λ p. not (has (label p) ls)) (λ p. takes s σ r.alls i (fact p)) ps
+    taken_by_list s σ r.alls i (without ls ps) ∙ filter-filter (λ p. not (has (label p) ls)) (λ p. takes_at s σ r.alls i (fact p)) ps
 
 pub length-taken_by : (s : System) (σ : Setting) (as' : List AllHead) (ps : List Pair) → length (taken_by s σ as' ps) ≡ length as'
 length-taken_by s σ [] ps = refl
@@ -221,90 +204,116 @@ together_two f (t ∷ []) e h = rw e refl
 together_two f (t ∷ (u ∷ [])) e h = ap (λ xs. f t ++ xs) (sym (append-nil (f u)))
 together_two f (t ∷ (u ∷ (v ∷ ts))) e h = absurd (omega arith)
 
-pub took_from : (s : System) (σ : Setting) (r : Rule) (ls : List ℕ) (ps : List Pair) (i : ℕ) (t : Taken) → taken_labels t ≡ labels (taken_at s σ r.alls i ls ps) → Took (get_or (all_taken s σ r ls ps) i []) t
-took_from s σ r ls ps i t e =
-    let d : taken_labels t ≡ labels (get_or (all_taken s σ r ls ps) i []) = e ∙ ap labels (sym (all_taken-at s σ r ls ps i)) in
-    record {
-      held = d;
-      count = took-count t ∙ (ap length d ∙ length-map (get_or (all_taken s σ r ls ps) i []) label);
-    }
+-- what an all head of a record takes, behind those before it
+pub took_from : (s : System) (σ : Setting) (o : RuleRecord) (ls : List ℕ) (ps : List Pair) (i : ℕ) (a : AllRecord) (xs : List ℕ) → slice_get (held o.alls) i ≡ Some a →
+    xs ≡ labels (taken_by_head s σ (map all_seen (take i (held o.alls))) (all_seen a) ls ps) → xs ≡ labels (get_or (all_taken s σ (rule_seen o) ls ps) i [])
+took_from s σ o ls ps i a xs h e =
+    let r = rule_seen o in
+    let b : i < length (held o.alls) = slice_get_within (held o.alls) i a h in
+    let n : i < length r.alls = omega (arith, b, length-map (held o.alls) all_seen) in
+    let earlier : take i r.alls ≡ map all_seen (take i (held o.alls)) = take-map all_seen i (held o.alls) in
+    let here : get_or r.alls i (all_seen a) ≡ all_seen a = get_or-map all_seen (held o.alls) i a (all_seen a) b ∙ ap all_seen (get_or_from_slice_get (held o.alls) i a a h) in
+    let same : (f : Fact) → takes s σ (map all_seen (take i (held o.alls))) (all_seen a) f ≡ takes_at s σ r.alls i f =
+    λ f. (λ j. takes s σ (sym earlier j) (sym here j) f) ∙ sym (takes-at s σ r.alls i (all_seen a) n f) in
+    e ∙ ap labels ((λ j. filter (λ p. not (has (label p) ls) && same (fact p) j) ps) ∙ sym (all_taken-at s σ r ls ps i))
 
-pub took_none : (t : Taken) (ts : List (List Pair)) (i : ℕ) → taken_labels t ≡ [] → length ts ≤ i → Took (get_or ts i []) t
-took_none t ts i c h =
-    let e = get_or_past ts i [] h in
-    record {
-      held = c ∙ ap labels (sym e);
-      count = took-count t ∙ (ap length c ∙ ap length (sym e));
-    }
+pub took_none : (xs : List ℕ) (ts : List (List Pair)) (i : ℕ) → xs ≡ [] → length ts ≤ i → xs ≡ labels (get_or ts i [])
+took_none xs ts i c h = c ∙ ap labels (sym (get_or_past ts i [] h))
 
-pub together-took : (t u : Taken) (ts : List (List Pair)) → length ts ≤ 2 → Took (get_or ts 0 []) t → Took (get_or ts 1 []) u → taken_labels t ++ taken_labels u ≡ flat_map labels ts
-together-took t u ts h k l = (λ i. k.held i ++ l.held i) ∙ together_two labels ts refl h
+-- what all heads took, in one list
+joined : {X Y : Type 0} (f : X → List Y) (xs : List X) → flat_map f xs ≡ flat_map (λ ys. ys) (map f xs)
+joined f [] = refl
+joined f (x ∷ xs) = ap (λ ys. f x ++ ys) (joined f xs)
+
+joined-took : (tk : List Taken) (ts : List (List Pair)) → Took ts tk → flat_map held tk ≡ labels (get_or ts 0 []) ++ labels (get_or ts 1 [])
+joined-took tk ts k = joined held tk ∙ (ap (flat_map (λ ys. ys)) k ∙ ap (λ ys. labels (get_or ts 0 []) ++ ys) (append-nil (labels (get_or ts 1 []))))
+
+pub together-took : (tk : List Taken) (ts : List (List Pair)) → length ts ≤ 2 → Took ts tk → flat_map held tk ≡ flat_map labels ts
+together-took tk ts h k = joined-took tk ts k ∙ together_two labels ts refl h
+
+pub length-took : (tk : List Taken) (ts : List (List Pair)) → Took ts tk → length (flat_map held tk) ≡ length (get_or ts 0 []) + length (get_or ts 1 [])
+length-took tk ts k =
+    ap length (joined-took tk ts k)
+    ∙ omega (arith, length-append (labels (get_or ts 0 [])) (labels (get_or ts 1 [])), length-map (get_or ts 0 []) label, length-map (get_or ts 1 []) label)
+
+-- one all head more took its pairs
+pub took-more : (tk : List Taken) (i : ℕ) (x : Taken) (ts : List (List Pair)) → length tk ≡ 2 → i < 2 → map held (take i tk) ≡ take i (map labels (two ts)) → held x ≡ labels (get_or ts i []) →
+    (length (set tk i x) ≡ 2) × (map held (take (i + 1) (set tk i x)) ≡ take (i + 1) (map labels (two ts)))
+took-more [] i x ts w h k e = absurd (omega arith)
+took-more (a ∷ []) i x ts w h k e = absurd (omega arith)
+took-more (a ∷ (b ∷ [])) zero x ts w h k e = (refl, ap (λ ns. ns ∷ []) e)
+took-more (a ∷ (b ∷ [])) (suc zero) x ts w h k e = (refl, λ j. k j ++ (e j ∷ []))
+took-more (a ∷ (b ∷ [])) (suc (suc i)) x ts w h k e = absurd (omega arith)
+took-more (a ∷ (b ∷ (d ∷ tk))) i x ts w h k e = absurd (omega arith)
+
+-- how many an all head took
+pub count-took : (tk : List Taken) (ts : List (List Pair)) (i : ℕ) (d : Taken) → Took ts tk → i < length tk → length (held (get_or tk i d)) ≡ length (get_or (map labels (two ts)) i [])
+count-took tk ts i d k h = ap length (sym (get_or-map held tk i d [] h) ∙ ap (λ xs. get_or xs i []) k)
 
 -- what leaves
-counted : (b : Bool) (u rest : List Pair) → length (cond b u [] ++ rest) ≡ cond b (length u) 0 + length rest
-counted true u rest = length-append u rest
-counted false u rest = omega arith
+gone-two : (hs : List AllHead) (ts : List (List Pair)) → length ts ≡ length hs → length hs ≤ 2 → gone_alls hs (map labels (two ts)) ≡ gone_alls hs (map labels ts)
+gone-two [] ts e h = refl
+gone-two (a ∷ hs) [] e h = absurd (omega arith)
+gone-two (a ∷ []) (t ∷ ts) e h = refl
+gone-two (a ∷ (b ∷ [])) (t ∷ []) e h = absurd (omega arith)
+gone-two (a ∷ (b ∷ [])) (t ∷ (u ∷ ts)) e h = refl
+gone-two (a ∷ (b ∷ (d ∷ hs))) (t ∷ ts) e h = absurd (omega arith)
 
-pub gone_number_of : (r : Rule) (c : List Pair) (ts : List (List Pair)) → length ts ≡ length r.alls → length r.alls ≤ 2 → length c ≡ length (singles r) →
-    gone_number r (length (get_or ts 0 [])) (length (get_or ts 1 [])) ≡ length (drop (length r.keeps) c ++ gone_alls r.alls ts)
-gone_number_of r c ts e h l =
-    let d = length-append r.keeps r.drops in
-    let x = length-append (drop (length r.keeps) c) (gone_alls r.alls ts) in
-    let y = length-drop (length r.keeps) c in
-    omega (arith, go r.alls ts e h, d, x, y, l)
-  where
-    go : (as' : List AllHead) (us : List (List Pair)) → length us ≡ length as' → length as' ≤ 2 → gone_at as' 0 (length (get_or us 0 [])) + gone_at as' 1 (length (get_or us 1 [])) ≡ length (gone_alls as' us)
-    go [] us e h = refl
-    go (a ∷ as') [] e h = absurd (omega arith)
-    go (a ∷ []) (u ∷ us) e h = omega (arith, counted a.drops u [])
-    go (a ∷ (b ∷ [])) (u ∷ []) e h = absurd (omega arith)
-    go (a ∷ (b ∷ [])) (u ∷ (v ∷ us)) e h = omega (arith, counted a.drops u (cond b.drops v [] ++ []), counted b.drops v [])
-    go (a ∷ (b ∷ (d ∷ as'))) us e h = absurd (omega arith)
+pub gone-took : (hs : List AllHead) (ts : List (List Pair)) (tk : List Taken) → length ts ≡ length hs → length hs ≤ 2 → Took ts tk → gone_alls hs (map held tk) ≡ labels (gone_alls hs ts)
+gone-took hs ts tk e h k = ap (gone_alls hs) k ∙ (gone-two hs ts e h ∙ gone-alls-map label hs ts)
 
 -- the all heads of a record
 pub heads_long : (s : System) (σ : Setting) (r : RuleRecord) (ls : List ℕ) (ps : List Pair) → length (all_taken s σ (rule_seen r) ls ps) ≡ r.alls.count
 heads_long s σ r ls ps = length-taken_by s σ (rule_seen r).alls (without ls ps) ∙ alls-count r
 
-pub gone_past : (rs : List AllRecord) (k i n : ℕ) → k ≤ i → gone_at (map all_seen (take k rs)) i n ≡ 0
-gone_past rs zero i n h = refl
-gone_past [] (suc k) i n h = refl
-gone_past (r ∷ rs) (suc k) zero n h = absurd (omega arith)
-gone_past (r ∷ rs) (suc k) (suc i) n h = gone_past rs k i n (omega arith)
+-- heads and what they took, one after the other
+pub gone-cons : (rs us : List AllRecord) (ts vs : List Taken) (r : AllRecord) (t : Taken) → rs ≡ r ∷ us → ts ≡ t ∷ vs → r.drops ≡ true →
+    gone_alls (map all_seen rs) (map held ts) ≡ held t ++ gone_alls (map all_seen us) (map held vs)
+gone-cons rs us ts vs r t e f h = (λ i. gone_alls (map all_seen (e i)) (map held (f i))) ∙ ap (λ b. cond b (held t) [] ++ gone_alls (map all_seen us) (map held vs)) h
 
-pub gone_there : (rs : List AllRecord) (k i n : ℕ) (d : AllRecord) → i < k → k ≤ length rs → gone_at (map all_seen (take k rs)) i n ≡ cond (get_or rs i d).drops n 0
-gone_there rs zero i n d h l = absurd (omega arith)
-gone_there [] (suc k) i n d h l = absurd (omega arith)
-gone_there (r ∷ rs) (suc k) zero n d h l = refl
-gone_there (r ∷ rs) (suc k) (suc i) n d h l = gone_there rs k i n d (omega arith) (omega arith)
+pub gone-none : (rs : List AllRecord) (ts : List Taken) → (rs ≡ []) ⊎ (ts ≡ []) → gone_alls (map all_seen rs) (map held ts) ≡ []
+gone-none rs ts (inl e) = ap (λ x. gone_alls (map all_seen x) (map held ts)) e
+gone-none [] ts (inr e) = refl
+gone-none (r ∷ rs) ts (inr e) = ap (λ x. gone_alls (map all_seen (r ∷ rs)) (map held x)) e
 
-pub gone_number-gone : (s : System) (r : Rule) (ps c : List Pair) → length r.alls ≤ 2 → length c ≡ length (singles r) →
-    gone_number r (length (get_or (taken_of s r ps c) 0 [])) (length (get_or (taken_of s r ps c) 1 [])) ≡ length (gone_of s r ps c)
-gone_number-gone s r ps c h l =
+-- how many labels go with an all head
+abbrev pub counted : AllRecord × Taken → ℕ
+counted p = length (held p.1)
+
+-- those whose head drops them
+abbrev pub dropping : List AllRecord → List Taken → List (AllRecord × Taken)
+dropping rs ts = filter (λ p. p.0.drops) (zip rs ts)
+
+pub gone-sum : (rs : List AllRecord) (ts : List Taken) → sum_by counted (dropping rs ts) ≡ length (gone_alls (map all_seen rs) (map held ts))
+gone-sum [] ts = refl
+gone-sum (r ∷ rs) [] = refl
+gone-sum (r ∷ rs) (t ∷ ts) = go (gone-sum rs ts) r.drops
+  where
+    go : sum_by counted (dropping rs ts) ≡ length (gone_alls (map all_seen rs) (map held ts)) → (b : Bool) →
+        sum_by counted (cond b ((r, t) ∷ dropping rs ts) (dropping rs ts)) ≡ length (cond b (held t) [] ++ gone_alls (map all_seen rs) (map held ts))
+    go h true = omega (arith, h, sum_by-cons counted (r, t) (dropping rs ts), length-append (held t) (gone_alls (map all_seen rs) (map held ts)))
+    go h false = h
+
+pub gone-few : (hs : List AllHead) (ts : List Taken) → length (gone_alls hs (map held ts)) ≤ 1024 * length ts
+gone-few [] ts = omega arith
+gone-few (a ∷ hs) [] = omega arith
+gone-few (a ∷ hs) (t ∷ ts) = go (gone-few hs ts) a.drops
+  where
+    go : length (gone_alls hs (map held ts)) ≤ 1024 * length ts → (b : Bool) → length (cond b (held t) [] ++ gone_alls hs (map held ts)) ≤ 1024 * length (t ∷ ts)
+    go h true = omega (arith, length-append (held t) (gone_alls hs (map held ts)), held-count t, t.few, h)
+    go h false = omega (arith, h)
+
+pub gone_number-gone : (s : System) (r : Rule) (ps c : List Pair) (tk : List Taken) → length r.alls ≤ 2 → length c ≡ length (singles r) → Took (taken_of s r ps c) tk →
+    gone_number r (map held tk) ≡ length (gone_of s r ps c)
+gone_number-gone s r ps c tk h l k =
     let ts = taken_of s r ps c in
-    gone_number_of r c ts (length-taken_by s (setting_of r (facts c)) r.alls (without (labels c) ps)) h l
-
--- the labels of what leaves
-labels-leaving : (b : Bool) (t rest : List Pair) → labels (cond b t [] ++ rest) ≡ cond b (labels t) [] ++ labels rest
-labels-leaving true t rest = map-append label t rest
-labels-leaving false t rest = refl
-
-drop-labels : (k : ℕ) (c : List Pair) → labels (drop k c) ≡ drop k (labels c)
-drop-labels zero c = refl
-drop-labels (suc k) [] = refl
-drop-labels (suc k) (p ∷ c) = drop-labels k c
-
-pub gone_alls-labels : (as' : List AllHead) (ts : List (List Pair)) → length ts ≡ length as' → length as' ≤ 2 → labels (gone_alls as' ts) ≡ gone_alls as' (labels (get_or ts 0 []) ∷ (labels (get_or ts 1 []) ∷ []))
-gone_alls-labels [] ts e h = refl
-gone_alls-labels (a ∷ as') [] e h = absurd (omega arith)
-gone_alls-labels (a ∷ []) (t ∷ ts) e h = labels-leaving a.drops t []
-gone_alls-labels (a ∷ (b ∷ [])) (t ∷ []) e h = absurd (omega arith)
-gone_alls-labels (a ∷ (b ∷ [])) (t ∷ (u ∷ ts)) e h = labels-leaving a.drops t (cond b.drops u [] ++ []) ∙ ap (λ xs. cond a.drops (labels t) [] ++ xs) (labels-leaving b.drops u [])
-gone_alls-labels (a ∷ (b ∷ (d ∷ as'))) ts e h = absurd (omega arith)
-
-pub gone-labels : (s : System) (r : Rule) (ps c : List Pair) → length r.alls ≤ 2 →
-    labels (gone_of s r ps c) ≡ drop (length r.keeps) (labels c) ++ gone_alls r.alls (labels (get_or (taken_of s r ps c) 0 []) ∷ (labels (get_or (taken_of s r ps c) 1 []) ∷ []))
-gone-labels s r ps c h =
-    let ts = taken_of s r ps c in
-    let e = gone_alls-labels r.alls ts (length-taken_by s (setting_of r (facts c)) r.alls (without (labels c) ps)) h in
-    map-append label (drop (length r.keeps) c) (gone_alls r.alls ts)
-    ∙ ((λ i. drop-labels (length r.keeps) c i ++ labels (gone_alls r.alls ts)) ∙ ap (λ xs. drop (length r.keeps) (labels c) ++ xs) e)
+    let g = gone-took r.alls ts tk (length-taken_by s (setting_of r (facts c)) r.alls (without (labels c) ps)) h k in
+    omega (
+      arith,
+      ap length g,
+      length-map (gone_alls r.alls ts) label,
+      length-append r.keeps r.drops,
+      length-append (drop (length r.keeps) c) (gone_alls r.alls ts),
+      length-drop (length r.keeps) c,
+      l,
+    )

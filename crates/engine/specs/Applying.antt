@@ -1,9 +1,9 @@
 -- What the inner functions of an application cite. No contract of a public function cites this.
-use Rattle.std.specs.Prelude.{◌≡◌, ℕ, zero, suc, ◌+◌, ◌≤◌, Bool, true, cond, List, [], ◌∷◌, ◌++◌, take, drop, length, Some, None, Ok, Err, Option, Result, slice_index_or, unwrap_or, option_map}
+use Rattle.std.specs.Prelude.{◌≡◌, ℕ, suc, ◌+◌, ◌≤◌, Bool, true, cond, List, [], ◌++◌, map, flat_map, take, drop, length, Some, None, Ok, Err, Option, Result, slice_index_or, unwrap_or, option_map}
 use Rattle.facts.specs.System.{System}
 use Rattle.facts.specs.declared.fact_types.Fact.{Fact}
 use Rattle.rules.specs.declared.rule_types.HeadPlace.{HeadPlace}
-use Rattle.rules.specs.Rules.{AllHead, Rule, all}
+use Rattle.rules.specs.Rules.{Rule, all}
 use Rattle.rules.specs.Writing.{no_parts}
 use Rattle.rules.specs.Closed.{heads_of, Place}
 use Rattle.stores.specs.Lists.{has}
@@ -14,21 +14,15 @@ use Rattle.machine.specs.Faults.{short_step}
 use Rattle.machine.specs.Machine.{Frame, State, gone_alls, taken_of, gone_of, given_of, shortage}
 use Rattle.engine.specs.declared.body_type.Body.{Body}
 use Rattle.engine.specs.declared.search.Choice.{Choice}
-use Rattle.engine.specs.declared.taking.AllTaken.{AllTaken}
+use Rattle.lists.specs.Held.{held}
 use Rattle.engine.specs.declared.applying.Weighed.{Weighed}
 use Rattle.engine.specs.Bringing.{has_kind}
 use Rattle.engine.specs.Goals.{below}
-use Rattle.engine.specs.Taking.{taken_labels, Took}
+use Rattle.engine.specs.Taking.{Taken, Took}
 
--- the labels of the facts that leave, of those of the single heads and of what the first and the second all head took
-abbrev pub gone_labels : Rule → List ℕ → List ℕ → List ℕ → List ℕ
-gone_labels r ls first second = drop (length r.keeps) ls ++ gone_alls r.alls (first ∷ (second ∷ []))
-
--- of the labels that the all head at an index took, those of facts that leave
-abbrev pub gone_by : List AllHead → ℕ → List ℕ → List ℕ
-gone_by [] i ls = []
-gone_by (a ∷ rest) zero ls = cond a.drops ls []
-gone_by (a ∷ rest) (suc i) ls = gone_by rest i ls
+-- the labels of the facts that leave, of those of the single heads and of what the all heads took
+abbrev pub gone_labels : Rule → List ℕ → List (List ℕ) → List ℕ
+gone_labels r ls lists = drop (length r.keeps) ls ++ gone_alls r.alls lists
 
 -- the rule at an index of a set, and where a head of it stands
 abbrev pub rule_at : List Rule → HeadPlace → Rule
@@ -42,11 +36,11 @@ abbrev pub choice_in : Option (List Pair) → List Pair
 choice_in o = unwrap_or o []
 
 -- the labels of all facts that an application uses, and those of the facts that leave
-abbrev pub used_labels : Rule → Choice → AllTaken → List ℕ
-used_labels r x t = take (heads_of r) x.labels ++ (taken_labels t.first ++ taken_labels t.second)
+abbrev pub used_labels : Rule → Choice → List Taken → List ℕ
+used_labels r x t = take (heads_of r) x.labels ++ flat_map held t
 
-abbrev pub leaving_labels : Rule → Choice → AllTaken → List ℕ
-leaving_labels r x t = gone_labels r (take (heads_of r) x.labels) (taken_labels t.first) (taken_labels t.second)
+abbrev pub leaving_labels : Rule → Choice → List Taken → List ℕ
+leaving_labels r x t = gone_labels r (take (heads_of r) x.labels) (map held t)
 
 -- the facts that a body has, where it has all that it counts
 abbrev pub facts_in : Body → List Fact
@@ -66,10 +60,9 @@ fault_of fr left None = Some fault.Body
 fault_of fr left (Some fs) = option_map short_step (shortage fr fs left)
 
 -- an application with what is taken and given was weighed, and it is not refused
-pub record IsReady (fr : Frame) (h : Place) (l : ℕ) (st : State) (c : List Pair) (t : AllTaken) (b : Body) (w : Weighed) : Type 0 where
-  pub first : Took (slice_index_or (taken_of fr.system h.rule st.pairs c) 0 []) t.first
-  pub second : Took (slice_index_or (taken_of fr.system h.rule st.pairs c) 1 []) t.second
-  pub within : heads_of h.rule + (t.first.count + t.second.count) ≤ length st.pairs
+pub record IsReady (fr : Frame) (h : Place) (l : ℕ) (st : State) (c : List Pair) (t : List Taken) (b : Body) (w : Weighed) : Type 0 where
+  pub took : Took (taken_of fr.system h.rule st.pairs c) t
+  pub within : heads_of h.rule + length (flat_map held t) ≤ length st.pairs
   pub given : given_of fr.system h.rule st.pairs c ≡ Some (facts_in b)
   pub added : b.count ≡ length (facts_in b)
   pub kinds : all has_kind (facts_in b) ≡ true
@@ -80,6 +73,6 @@ pub record IsReady (fr : Frame) (h : Place) (l : ℕ) (st : State) (c : List Pai
   pub goes : w.goes ≡ has l (labels (gone_of fr.system h.rule st.pairs c))
 
 -- an application was weighed: the record of one that is not refused, or the fault of one that is
-abbrev pub IsWeighed : Frame → Place → ℕ → State → List Pair → AllTaken → Body → Result Weighed StepFault → Type 0
+abbrev pub IsWeighed : Frame → Place → ℕ → State → List Pair → List Taken → Body → Result Weighed StepFault → Type 0
 IsWeighed fr h l st c t b (Ok w) = IsReady fr h l st c t b w
 IsWeighed fr h l st c t b (Err e) = fault_of fr (left_in fr.system h l st c) (given_of fr.system h.rule st.pairs c) ≡ Some e

@@ -1,5 +1,5 @@
 //! A rule is applied to a choice of facts.
-ghost use Rattle.std.specs.Prelude.{◌≡◌, ◌+◌, ◌-◌, ◌^◌, ◌≤◌, ◌<◌, ◌++◌, true, cond, if◌then◌else◌, length, take, min, Some, None};
+ghost use Rattle.std.specs.Prelude.{◌≡◌, ◌+◌, ◌-◌, ◌^◌, ◌≤◌, ◌<◌, ◌++◌, true, cond, if◌then◌else◌, length, map, flat_map, take, min, Some, None};
 ghost use Rattle.lists.specs.Held.{held};
 ghost use Rattle.rules.specs.Rules.{all, rule_seen};
 ghost use Rattle.rules.specs.Closed.{heads_of};
@@ -8,24 +8,24 @@ ghost use Rattle.stores.specs.Piles.{with_pairs};
 ghost use Rattle.stores.specs.Store.{without};
 ghost use Rattle.machine.specs.Machine.{chosen, try_choice, bring, listed, seen, shortage};
 ghost use Rattle.machine.specs.declared.goal_types.Goal.TheVariants.{Try};
-ghost use Rattle.engine.specs.Applying.{gone_by, gone_labels, rule_at, place_at, choice_in, used_labels, leaving_labels, facts_in, left_by, IsWeighed};
+ghost use Rattle.engine.specs.Applying.{gone_labels, rule_at, place_at, choice_in, used_labels, leaving_labels, facts_in, left_by, IsWeighed};
 ghost use Rattle.engine.specs.Bringing.{has_kind};
 ghost use Rattle.engine.specs.Goals.{top_of, below};
 ghost use Rattle.engine.specs.Jobs.{state_of, frame_of, IsOutcome};
 ghost use Rattle.engine.specs.Room.{room, short_of_room};
 ghost use Rattle.engine.specs.Searching.{IsFound};
 
-use crate::body::body_of;
 use crate::bringing::bring_in;
+use crate::found::{Found, rule_of};
 use crate::job_type::Job;
 use crate::removing::{remove_all, write_labels};
 use crate::room::{Used, room_in_job};
 use crate::search::{Choice, is_among};
 use crate::stack::{GOALS, Stack};
-use crate::taking::{AllTaken, Taken, gone_count, take_all};
+use crate::taking::AllTaken;
 use facts::Words;
 use machine::{Answer, Application, Shortage, StepFault};
-use rules::{HeadPlace, RuleRecord};
+use rules::HeadPlace;
 use stores::Store;
 
 /// What an application comes to, besides what is taken and given: how many facts leave, and whether the active one does.
@@ -35,37 +35,30 @@ struct Weighed {
     goes: bool,
 }
 
-// The labels of the facts of the single heads, and then those of what the all heads took, begin the list.
-fn list_labels(list: &mut [u32], rule: &RuleRecord, choice: &Choice, taken: &AllTaken)
-    requires room { rule.now.singles.count + (taken.now.first.count + taken.now.second.count) ≤ length list.old }
-    ensures { list.new ≡ listed (take rule.now.singles.count choice.now.labels ++ (held taken.now.first ++ held taken.now.second)) list.old }
-{
-    let singles = rule.singles.count;
-    let first = taken.first.count;
-    write_labels(list, 0, &choice.labels[0..singles]);
-    write_labels(list, singles, taken.first.as_slice());
-    write_labels(list, singles + first, taken.second.as_slice());
-}
-
-// Of the facts that the all head at an index took, those leave the store that a `dropall` head took.
-fn remove_taken<S: Store>(store: &mut S, rule: &RuleRecord, index: usize, taken: &Taken)
-    ensures { S.meaning store.new ≡ with_pairs (S.meaning store.old) (without (gone_by (rule_seen rule.now).alls index (held taken.now)) (S.meaning store.old).pairs) }
-{
-    if index >= rule.alls.count {
-        return;
+impl Found<'_> {
+    // The labels of the facts of the single heads, and then those of what the all heads took, begin the list.
+    fn list_labels(self, list: &mut [u32], taken: &AllTaken)
+        requires room { self.rule.now.singles.count + length (flat_map held taken.now) ≤ length list.old }
+        ensures { list.new ≡ listed (take self.entry.rule.now.singles.count self.entry.choice.now.labels ++ flat_map held taken.now) list.old }
+    {
+        let mut end = write_labels(list, 0, self.chosen());
+        for labels in taken {
+            end = write_labels(list, end, labels.as_slice());
+        }
     }
-    if rule.alls.items[index].drops {
-        remove_all(store, taken.as_slice());
-    }
-}
 
-// The facts of the `drop` heads, and those that the `dropall` heads took, leave the store.
-fn remove_gone<S: Store>(store: &mut S, rule: &RuleRecord, choice: &Choice, taken: &AllTaken)
-    ensures { S.meaning store.new ≡ with_pairs (S.meaning store.old) (without (gone_labels (rule_seen rule.now) (take rule.now.singles.count choice.now.labels) (held taken.now.first) (held taken.now.second)) (S.meaning store.old).pairs) }
-{
-    remove_all(store, &choice.labels[rule.keep_count..rule.singles.count]);
-    remove_taken(store, rule, 0, &taken.first);
-    remove_taken(store, rule, 1, &taken.second);
+    // The facts of the `drop` heads, and those that the `dropall` heads took, leave the store.
+    fn remove_gone<S: Store>(self, store: &mut S, taken: &AllTaken)
+        ensures { S.meaning store.new ≡ with_pairs (S.meaning store.old) (without (gone_labels (rule_seen self.entry.rule.now) (take self.entry.rule.now.singles.count self.entry.choice.now.labels) (map held taken.now)) (S.meaning store.old).pairs) }
+    {
+        let alls = self.rule.alls.as_slice();
+        remove_all(store, self.dropped());
+        for (all, labels) in alls.iter().zip(taken) {
+            if all.drops {
+                remove_all(store, labels.as_slice());
+            }
+        }
+    }
 }
 
 // The top goal goes, if it does.
@@ -100,6 +93,7 @@ impl<W: Words + Drop, S: Store + Drop> Job<W, S> {
     }
 
     // What an application comes to, or why it is refused.
+    // By hand: `rule` is asked in place of the rule's record, which the job would lend while it is changed.
     fn weigh(
         &mut self,
         active: u32,
@@ -116,25 +110,24 @@ impl<W: Words + Drop, S: Store + Drop> Job<W, S> {
         ensures next { self.new.next ≡ self.old.next }
         ensures goals { self.new.goals ≡ self.old.goals }
     {
-        let Some(rule) = self.set.rule(usize::from(place.rule)) else {
-            unreachable!();
-        };
-        take_all::<W, S>(&self.store, rule, choice, &mut self.scratch.taken);
+        let rule = rule_of(&self.set, place);
+        let found = Found { rule, choice };
+        found.take_all::<W, S>(&self.store, &mut self.scratch.taken);
         let taken = &self.scratch.taken;
-        let Some(()) = body_of::<W, S>(&self.store, rule, choice, taken, &mut self.scratch.body)
-        else {
-            return Err(StepFault::Body);
-        };
-        let removed = gone_count(rule, taken);
-        let goes = is_among(active, &choice.labels[rule.keep_count..rule.singles.count]);
+        found
+            .body_of::<W, S>(&self.store, taken, &mut self.scratch.body)
+            .ok_or(StepFault::Body)?;
+        let removed = found.gone_count(taken);
+        let goes = is_among(active, found.dropped());
         self.room_for_body(removed, goes)?;
         Ok(Weighed { removed, goes })
     }
 
     // The application is done.
+    // By hand: `rule` is asked as in `weigh`.
     fn carry_out(&mut self, place: HeadPlace, choice: &Choice, goes: bool, list: &mut [u32])
         requires rule { place.rule < length (closed_rules self.old.set) }
-        requires wide { heads_of (rule_at (closed_rules self.old.set) place) + (self.old.scratch.taken.first.count + self.old.scratch.taken.second.count) ≤ length list.old }
+        requires wide { heads_of (rule_at (closed_rules self.old.set) place) + length (flat_map held self.old.scratch.taken) ≤ length list.old }
         requires added { self.old.scratch.body.count ≡ length (facts_in self.old.scratch.body) }
         requires kinds { all has_kind (facts_in self.old.scratch.body) ≡ true }
         requires room { shortage (frame_of W.system S.meaning self.old) (facts_in self.old.scratch.body) (left_by (leaving_labels (rule_at (closed_rules self.old.set) place) choice.now self.old.scratch.taken) goes (state_of S.meaning self.old)) ≡ None }
@@ -142,11 +135,10 @@ impl<W: Words + Drop, S: Store + Drop> Job<W, S> {
         ensures list { list.new ≡ listed (used_labels (rule_at (closed_rules self.old.set) place) choice.now self.old.scratch.taken) list.old }
         ensures frame { frame_of W.system S.meaning self.new ≡ frame_of W.system S.meaning self.old }
     {
-        let Some(rule) = self.set.rule(usize::from(place.rule)) else {
-            unreachable!();
-        };
-        list_labels(list, rule, choice, &self.scratch.taken);
-        remove_gone(&mut self.store, rule, choice, &self.scratch.taken);
+        let rule = rule_of(&self.set, place);
+        let found = Found { rule, choice };
+        found.list_labels(list, &self.scratch.taken);
+        found.remove_gone(&mut self.store, &self.scratch.taken);
         leave_top(&mut self.goals, goes);
         let count = self.scratch.body.count;
         let first = self.next;
@@ -160,6 +152,7 @@ impl<W: Words + Drop, S: Store + Drop> Job<W, S> {
     }
 
     /// The rule whose head stands at a place is applied to a choice that has the active label there, or refused.
+    // By hand: `top` and `wide` are asked as in `try_at`, and `rule` as in `weigh`.
     #[inline(never)]
     pub(crate) fn apply(
         &mut self,
@@ -180,8 +173,9 @@ impl<W: Words + Drop, S: Store + Drop> Job<W, S> {
         match self.weigh(active, place, choice) {
             Err(fault) => Answer::Refused(fault),
             Ok(weighed) => {
-                let taken = &self.scratch.taken;
-                let took = [taken.first.count as u32, taken.second.count as u32];
+                // `as`: at most 1,024 facts are taken or removed, and at most 512 added, so `try_from` could not fail.
+                let [first, second] = &self.scratch.taken;
+                let took = [first.len() as u32, second.len() as u32];
                 let added = self.scratch.body.count as u32;
                 self.carry_out(place, choice, weighed.goes, list);
                 Answer::Applied(Application {

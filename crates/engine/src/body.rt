@@ -1,5 +1,5 @@
 //! The body of a rule: the facts that it gives for what its all heads took.
-ghost use Rattle.std.specs.Prelude.{◌≡◌, ◌+◌, ◌*◌, ◌≤◌, ◌<◌, [], map, flat_map, length, take, true, is_some, slice_index_or};
+ghost use Rattle.std.specs.Prelude.{◌≡◌, ◌+◌, ◌*◌, ◌≤◌, ◌<◌, [], map, flat_map, length, take, true, is_some};
 ghost use Rattle.rules.specs.Rules.{all, rule_seen};
 ghost use Rattle.stores.specs.Store.{facts, read};
 ghost use Rattle.machine.specs.Fitting.{given, all_values, body};
@@ -8,31 +8,37 @@ ghost use Rattle.engine.specs.Searching.{pairs_at};
 ghost use Rattle.engine.specs.Taking.{with_given, Gives, IsBody, Took, all_taken, labels_over, given_over, Held};
 
 use crate::body_type::Body;
+use crate::found::Found;
 use crate::letters::Letters;
-use crate::search::Choice;
 use crate::stack::GOALS;
 use crate::taking::AllTaken;
-use crate::templates::fill;
+use crate::terms::Scope;
 use facts::{Fact, Words};
-use rules::{GiveAll, RuleRecord, Template};
+use rules::{GiveAll, Template};
 use stores::Store;
 
 fn add(body: &mut Body, fact: Fact)
     requires { body.old.count < 4000 }
     ensures { body.new ≡ with_given body.old fact }
 {
+    // By hand: with `get_mut` the proof of the body stays open, as it knows no fact after the write.
     if body.count < GOALS {
         body.facts[body.count] = fact;
     }
     body.count += 1;
 }
 
+// By hand, here and below: the body is lent and filled in place, since an answer would copy its 512 facts and nothing is allocated.
 fn give_each<W: Words>(letters: &Letters, templates: &[Template], body: &mut Body) -> Option<()>
     requires { body.old.count + length templates.now ≤ 4000 }
     ensures { Gives (all_values (map (given W.system (setting_in letters.now) []) templates.now)) body.old body.new result }
 {
+    let scope = Scope {
+        letters,
+        taken: &[],
+    };
     for template in templates {
-        add(body, fill::<W>(letters, &[], template)?);
+        add(body, scope.fill::<W>(template)?);
     }
     Some(())
 }
@@ -50,21 +56,23 @@ fn give_over<W: Words, S: Store>(
 {
     for label in labels {
         let taken = store.read(*label)?;
-        add(body, fill::<W>(letters, &taken.words, template)?);
+        let scope = Scope {
+            letters,
+            taken: &taken.words,
+        };
+        add(body, scope.fill::<W>(template)?);
     }
     Some(())
 }
 
 /// The labels that the all head with a number from 1 took.
 fn labels_over<'a>(over: u8, taken: &'a AllTaken) -> &'a [u32]
-    ensures { result.now ≡ labels_over over taken.now.first taken.now.second }
+    ensures labels { result.now ≡ labels_over over taken.now }
+    ensures bound { length result.now ≤ 1024 }
 {
-    if over <= 1 {
-        taken.first.as_slice()
-    } else if over == 2 {
-        taken.second.as_slice()
-    } else {
-        &[]
+    match taken.get(usize::from(over).saturating_sub(1)) {
+        Some(labels) => labels.as_slice(),
+        None => &[],
     }
 }
 
@@ -76,9 +84,8 @@ fn give_all<W: Words, S: Store>(
     body: &mut Body,
 ) -> Option<()>
     requires few { body.old.count + 1024 * length givealls.now ≤ 4000 }
-    requires first { Held (S.meaning store.now).pairs taken.now.first }
-    requires second { Held (S.meaning store.now).pairs taken.now.second }
-    ensures { Gives (all_values (flat_map (given_over W.system (setting_in letters.now) (S.meaning store.now).pairs taken.now.first taken.now.second) givealls.now)) body.old body.new result }
+    requires held { Held (S.meaning store.now).pairs taken.now }
+    ensures { Gives (all_values (flat_map (given_over W.system (setting_in letters.now) (S.meaning store.now).pairs taken.now) givealls.now)) body.old body.new result }
 {
     for giveall in givealls {
         let labels = labels_over(giveall.over, taken);
@@ -87,21 +94,21 @@ fn give_all<W: Words, S: Store>(
     Some(())
 }
 
-/// The body is made of the facts that a rule gives for what its all heads took: first all of `give`, then those of each `giveall` by
-/// rising label. None where a term has no value.
-pub(crate) fn body_of<W: Words, S: Store>(
-    store: &S,
-    rule: &RuleRecord,
-    choice: &Choice,
-    taken: &AllTaken,
-    made: &mut Body,
-) -> Option<()>
-    requires first { Took (slice_index_or (all_taken W.system (setting_in choice.now.letters) (rule_seen rule.now) (take rule.now.singles.count choice.now.labels) (S.meaning store.now).pairs) 0 []) taken.now.first }
-    requires second { Took (slice_index_or (all_taken W.system (setting_in choice.now.letters) (rule_seen rule.now) (take rule.now.singles.count choice.now.labels) (S.meaning store.now).pairs) 1 []) taken.now.second }
-    ensures { IsBody (body W.system (setting_in choice.now.letters) (rule_seen rule.now) (map facts (all_taken W.system (setting_in choice.now.letters) (rule_seen rule.now) (take rule.now.singles.count choice.now.labels) (S.meaning store.now).pairs))) made.new result }
-{
-    made.count = 0;
-    give_each::<W>(&choice.letters, rule.gives.as_slice(), made)?;
-    let givealls = rule.givealls.as_slice();
-    give_all::<W, S>(store, &choice.letters, givealls, taken, made)
+impl Found<'_> {
+    /// The body is made of the facts that the rule gives for what its all heads took: first all of `give`, then those of each
+    /// `giveall` by rising label. None where a term has no value.
+    pub(crate) fn body_of<W: Words, S: Store>(
+        self,
+        store: &S,
+        taken: &AllTaken,
+        made: &mut Body,
+    ) -> Option<()>
+        requires { Took (all_taken W.system (setting_in self.choice.now.letters) (rule_seen self.rule.now) (take self.rule.now.singles.count self.choice.now.labels) (S.meaning store.now).pairs) taken.now }
+        ensures { IsBody (body W.system (setting_in self.entry.choice.now.letters) (rule_seen self.entry.rule.now) (map facts (all_taken W.system (setting_in self.entry.choice.now.letters) (rule_seen self.entry.rule.now) (take self.entry.rule.now.singles.count self.entry.choice.now.labels) (S.meaning store.now).pairs))) made.new result }
+    {
+        let letters = &self.choice.letters;
+        made.count = 0;
+        give_each::<W>(letters, self.rule.gives.as_slice(), made)?;
+        give_all::<W, S>(store, letters, self.rule.givealls.as_slice(), taken, made)
+    }
 }

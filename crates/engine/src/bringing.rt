@@ -7,7 +7,7 @@ ghost use Rattle.stores.specs.Store.{placed, placed_all, last_label};
 ghost use Rattle.machine.specs.Machine.{seen, unseen, numbered, bring};
 ghost use Rattle.machine.specs.declared.goal_types.Goal.TheVariants.{Wait};
 ghost use Rattle.engine.specs.Bringing.{has_kind, looks_from};
-ghost use Rattle.engine.specs.Jobs.{state_of, frame_of, state_on};
+ghost use Rattle.engine.specs.Jobs.{state_on};
 
 use crate::job_type::Job;
 use crate::stack::Stack;
@@ -17,6 +17,8 @@ use rules::ClosedSet;
 use stores::Store;
 
 // The fact is stored under a label. There is room for it.
+// By hand, here and below: `post` takes facts of any kind and refuses some; a type of facts of the 64 kinds would be a copy of them.
+// It takes the store alone: the facts that an application brings stand in the job, so `bring_in` is lent the job's other parts.
 fn put_next<S: Store>(store: &mut S, label: u32, fact: Fact)
     requires kind { has_kind fact ≡ true }
     requires room { length (S.meaning store.old).pairs < (S.meaning store.old).capacity }
@@ -29,6 +31,7 @@ fn put_next<S: Store>(store: &mut S, label: u32, fact: Fact)
 }
 
 // Those that are stored at once get the labels from a first one on. Answers the label after theirs.
+// By hand, here and below: `room` and `labels` tie the store, the set and the facts, each of which is lent alone, so no type has them.
 fn store_watched<W: Words, S: Store>(
     set: &ClosedSet<W>,
     store: &mut S,
@@ -42,7 +45,7 @@ fn store_watched<W: Words, S: Store>(
     ensures next { result ≡ first + length (seen (closed_rules set.now) facts.now) }
     ensures store { S.meaning store.new ≡ with_pairs (S.meaning store.old) (placed_all (numbered first (seen (closed_rules set.now) facts.now)) (S.meaning store.old).pairs) }
 {
-    // Counts what is stored, and not the facts that are gone over.
+    // By hand: the label after theirs is answered, which would be counted beside a `zip` of labels and facts too.
     let mut next = first;
     for fact in facts {
         if set.watches(fact) {
@@ -59,6 +62,7 @@ fn push_looks(goals: &mut Stack, first: u32, last: u32)
     requires room { length goals.old + (last - first) ≤ 512 }
     ensures { goals.new ≡ looks_from first (last - first) ++ goals.old }
 {
+    // By hand: the labels are numbers in a row, and stand in no list.
     for label in (first..last).rev() {
         goals.push(Goal::Look(label));
     }
@@ -109,6 +113,7 @@ impl<W: Words + Drop, S: Store + Drop> Job<W, S> {
     }
 
     /// The fact is stored under the next label. There is room for it.
+    // By hand: a call may write to all that a `&mut` lends, so what stays is said here and in the job's other functions.
     pub(crate) fn store_next(&mut self, fact: Fact)
         requires kind { has_kind fact ≡ true }
         requires room { length (S.meaning self.old.store).pairs < (S.meaning self.old.store).capacity }
@@ -120,18 +125,5 @@ impl<W: Words + Drop, S: Store + Drop> Job<W, S> {
     {
         put_next(&mut self.store, self.next, fact);
         self.next += 1;
-    }
-
-    /// The facts are brought in. There is room for them.
-    pub(crate) fn bring(&mut self, facts: &[Fact])
-        requires kinds { all has_kind facts.now ≡ true }
-        requires goals { length self.old.goals + length facts.now ≤ 512 }
-        requires room { length (S.meaning self.old.store).pairs + length (seen (closed_rules self.old.set) facts.now) ≤ (S.meaning self.old.store).capacity }
-        requires labels { self.old.next + length (seen (closed_rules self.old.set) facts.now) ≤ suc last_label }
-        ensures state { state_of S.meaning self.new ≡ bring (closed_rules self.old.set) facts.now (state_of S.meaning self.old) }
-        ensures frame { frame_of W.system S.meaning self.new ≡ frame_of W.system S.meaning self.old }
-    {
-        let first = self.next;
-        self.next = bring_in::<W, S>(&self.set, &mut self.store, first, &mut self.goals, facts);
     }
 }

@@ -1,5 +1,5 @@
 //! What is done with a job.
-ghost use Rattle.std.specs.Prelude.{◌≡◌, ◌≤◌, [], length, Ok};
+ghost use Rattle.std.specs.Prelude.{◌≡◌, [], length, Ok};
 ghost use Rattle.rules.specs.Sets.{closed_rules};
 ghost use Rattle.stores.specs.Store.{read};
 ghost use Rattle.machine.specs.Machine.{empty_state, shortage, post_answer, after_post};
@@ -8,6 +8,7 @@ ghost use Rattle.engine.specs.Calls.{Upholds};
 ghost use Rattle.engine.specs.Room.{room};
 ghost use Rattle.engine.specs.Jobs.{state_of, frame_of, create_answer};
 
+use crate::bringing::bring_in;
 use crate::fault_types::CreateFault;
 use crate::job_type::Job;
 use crate::judging::judge_facts;
@@ -53,9 +54,6 @@ impl<W: Words + Drop, S: Store + Drop> Job<W, S> {
         ensures facts { result.facts ≡ length (S.meaning self.now.store).pairs }
         ensures next { result.next ≡ self.now.next }
         ensures capacity { result.capacity ≡ (S.meaning self.now.store).capacity }
-        ensures few_goals { result.goals ≤ 512 }
-        ensures few_facts { result.facts ≤ result.capacity }
-        ensures small { result.capacity ≤ 1024 }
     {
         Used {
             goals: self.goals.len(),
@@ -84,7 +82,8 @@ impl<W: Words + Drop, S: Store + Drop> Job<W, S> {
     {
         judge_facts::<W>(facts)?;
         self.room_for(facts)?;
-        self.bring(facts);
+        let first = self.next;
+        self.next = bring_in::<W, S>(&self.set, &mut self.store, first, &mut self.goals, facts);
         Ok(())
     }
 

@@ -18,6 +18,7 @@ fn bind_letter(mut letters: Letters, letter: u8, word: i64) -> Option<Letters>
     let at = usize::from(letter);
     match *letters.get(at)? {
         Some(bound) => (bound == word).then_some(letters),
+        // By hand: with `get_mut` the proof of what is answered stays open, as it knows no letter after the write.
         None => {
             letters[at] = Some(word);
             Some(letters)
@@ -64,11 +65,11 @@ pub(crate) fn bind_fact(letters: Letters, pattern: &Pattern, fact: &Fact) -> Opt
 pub(crate) fn word_of(letters: &Letters, letter: u8) -> i64
     ensures { result ≡ setting_in letters.now letter }
 {
-    let at = usize::from(letter);
-    if at >= LETTER_COUNT {
-        return 0;
-    }
-    letters[at].unwrap_or(0)
+    letters
+        .get(usize::from(letter))
+        .copied()
+        .flatten()
+        .unwrap_or(0)
 }
 
 fn fits_word(letters: &Letters, argument: Argument, word: i64) -> bool
@@ -84,12 +85,9 @@ fn fits_word(letters: &Letters, argument: Argument, word: i64) -> bool
 fn fits_words(letters: &Letters, args: &[Argument; WORDS], words: &[i64; WORDS]) -> bool
     ensures { result ≡ fits_words (setting_in letters.now) args.now words.now }
 {
-    for (argument, word) in args.iter().zip(words) {
-        if !fits_word(letters, *argument, *word) {
-            return false;
-        }
-    }
-    true
+    args.iter()
+        .zip(words)
+        .all(|(argument, word)| fits_word(letters, *argument, *word))
 }
 
 /// Whether a fact fits a head under the letters, all of which are bound.

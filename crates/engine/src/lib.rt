@@ -8,6 +8,7 @@ mod body_type;
 mod bringing;
 mod fault_numbers;
 mod fault_types;
+mod found;
 mod job;
 mod job_type;
 mod judging;

@@ -3,7 +3,7 @@ ghost use Rattle.std.specs.Prelude.{◌≡◌, ◌≢◌, ◌↔◌, min, length
 ghost use Rattle.rules.specs.Sets.{closed_rules};
 ghost use Rattle.machine.specs.Ledger.{reply, after_act};
 ghost use Rattle.engine.specs.Acts.{act_with, list_after, told_of, with_acts, begun_with, replies_of, Kept};
-ghost use Rattle.engine.specs.Jobs.{state_of, frame_of, frame_on, create_answer};
+ghost use Rattle.engine.specs.Jobs.{state_of, frame_of, frame_on};
 
 use crate::act_types::{Act, Reply};
 use crate::fault_types::CreateFault;
@@ -58,6 +58,7 @@ pub fn perform<W: Words + Drop, S: Store + Drop>(
     Job::<W, S>::may_create(&store)?;
     let mut job = Job::<W, S>::create(set, store);
     let count = acts.len().min(replies.len());
+    // By hand: a `zip` with `iter_mut` leaves the values unknown, as in `fill_words`, and the proof of `replies` would stay open.
     for (done, act) in acts[..count].iter().enumerate() {
         replies[done] = do_act(&mut job, act, list);
     }

@@ -14,11 +14,13 @@ pub(crate) fn remove_all<S: Store>(store: &mut S, labels: &[u32])
     }
 }
 
-/// Labels are written over a list from a place on.
-pub(crate) fn write_labels(list: &mut [u32], start: usize, labels: &[u32])
+/// Labels are written over a list from a place on. Answers the place behind them.
+pub(crate) fn write_labels(list: &mut [u32], start: usize, labels: &[u32]) -> usize
     requires { start + length labels.now ≤ length list.old }
-    ensures { list.new ≡ take start list.old ++ (labels.now ++ drop (start + length labels.now) list.old) }
+    ensures end { result ≡ start + length labels.now }
+    ensures list { list.new ≡ take start list.old ++ (labels.now ++ drop (start + length labels.now) list.old) }
 {
     let end = start + labels.len();
     list[start..end].copy_from_slice(labels);
+    end
 }

@@ -13,17 +13,20 @@ pub(crate) struct Used {
     pub(crate) facts: usize,
     pub(crate) next: u32,
     pub(crate) capacity: usize,
+    ghost few_goals: { goals ≤ 512 },
+    ghost few_facts: { facts ≤ capacity },
+    ghost small: { capacity ≤ 1024 },
 }
 
 /// Whether there is room to store so many facts more, or what there is too little of.
 pub(crate) fn room_in_store(used: &Used, stored: usize) -> Result<(), Shortage>
-    requires facts { used.now.facts ≤ 1024 }
-    requires stored { stored ≤ 1024 }
+    requires { stored ≤ 1024 }
     ensures { result ≡ room (short_of_store used.now.capacity used.now.facts used.now.next stored) }
 {
     if used.facts + stored > used.capacity {
         return Err(Shortage::Facts);
     }
+    // `as`: no `From` takes a u32 to a usize, and `try_from` could not fail.
     if used.next as usize + stored > LABELS as usize + 1 {
         return Err(Shortage::Labels);
     }
@@ -32,8 +35,6 @@ pub(crate) fn room_in_store(used: &Used, stored: usize) -> Result<(), Shortage>
 
 /// Whether there is room to bring in so many facts, of which some are stored at once, or what there is too little of.
 pub(crate) fn room_in_job(used: &Used, brought: usize, stored: usize) -> Result<(), Shortage>
-    requires goals { used.now.goals ≤ 512 }
-    requires facts { used.now.facts ≤ 1024 }
     requires brought { brought < 2 ^ 32 }
     requires stored { stored ≤ 1024 }
     ensures { result ≡ room (short_of_room used.now.goals brought used.now.capacity used.now.facts used.now.next stored) }

@@ -4,6 +4,7 @@ use crate::stack::GOALS;
 use crate::taking::AllTaken;
 use facts::{Fact, WORDS};
 use lists::FixedList;
+use rules::ALLS;
 
 /// What the all heads of a rule took, and what its body gave, the last time that a rule was weighed.
 #[derive(Drop)]
@@ -20,10 +21,7 @@ impl Scratch {
             words: [0; WORDS],
         };
         Scratch {
-            taken: AllTaken {
-                first: FixedList::new(0),
-                second: FixedList::new(0),
-            },
+            taken: [FixedList::new(0); ALLS],
             body: Body {
                 facts: [fact; GOALS],
                 count: 0,

@@ -17,6 +17,7 @@ use stores::Store;
 /// Labels chosen for the first single heads of a rule, and the letters that their facts and the active fact bind.
 #[derive(Clone, Copy)]
 pub(crate) struct Choice {
+    // By hand: a label is chosen at each head's number in turn, which is needed beside a `FixedList` too.
     pub(crate) labels: [u32; SINGLES],
     pub(crate) letters: Letters,
 }
@@ -32,10 +33,7 @@ fn first_word(letters: &Letters, pattern: &Pattern) -> Option<i64>
     ensures { result ≡ first_word letters.now pattern.now }
 {
     match pattern.args[0] {
-        Argument::Letter(letter) => {
-            let at = usize::from(letter);
-            if at < LETTER_COUNT { letters[at] } else { None }
-        }
+        Argument::Letter(letter) => *letters.get(usize::from(letter))?,
         Argument::Constant(word) => Some(word),
         Argument::Any => None,
     }
@@ -56,76 +54,65 @@ pub(crate) fn next_candidate<S: Store>(
     }
 }
 
-/// The choice with one label more, where that is not chosen yet and its fact fits the head.
-fn extended<S: Store>(
-    store: &S,
-    pattern: &Pattern,
-    active: u32,
-    choice: &Choice,
-    at: usize,
-    label: u32,
-) -> Option<Choice>
-    requires { at < 4 }
-    ensures { IsExtended (extended (S.meaning store.now).pairs pattern.now active (take at choice.now.labels) choice.now.letters label) choice.now at label result }
-{
-    if label == active || is_among(label, &choice.labels[0..at]) {
-        return None;
-    }
-    let fact = store.read(label)?;
-    let letters = bind_fact(choice.letters, pattern, &fact)?;
-    let mut labels = choice.labels;
-    labels[at] = label;
-    Some(Choice { labels, letters })
-}
-
-/// The lowest choice that begins with the labels chosen so far and makes the rule ready.
-fn search_from<W: Words, S: Store>(
-    store: &S,
-    rule: &RuleRecord,
+/// What is searched: a store, for a choice for a rule with the active fact at a place among its single heads.
+#[derive(Drop)]
+struct Searched<'a, S> {
+    store: &'a S,
+    rule: &'a RuleRecord,
     place: usize,
     active: u32,
-    choice: &Choice,
-    at: usize,
-) -> Option<Choice>
-    requires partial { IsPartial (S.meaning store.now).pairs (rule_seen rule.now) place active (take at choice.now.labels) choice.now.letters }
-    requires at_head { at ≤ rule.now.singles.count }
-    ensures { IsFound (rule_seen rule.now) (found_from W.system (rule_seen rule.now) place active (S.meaning store.now).pairs (take at choice.now.labels)) result }
-{
-    if at >= rule.singles.count {
-        return conditions_hold::<W>(&choice.letters, rule).then_some(*choice);
+}
+
+impl<S: Store> Searched<'_, S> {
+    /// The choice with one label more, where that is not chosen yet and its fact fits the head.
+    fn extended(&self, head: &Pattern, choice: &Choice, at: usize, label: u32) -> Option<Choice>
+        requires { at < 4 }
+        ensures { IsExtended (extended (S.meaning self.now.store.now).pairs head.now self.now.active (take at choice.now.labels) choice.now.letters label) choice.now at label result }
+    {
+        if label == self.active || is_among(label, &choice.labels[..at]) {
+            return None;
+        }
+        let fact = self.store.read(label)?;
+        let letters = bind_fact(choice.letters, head, &fact)?;
+        let mut labels = choice.labels;
+        labels[at] = label;
+        Some(Choice { labels, letters })
     }
-    if at == place {
-        let mut longer = *choice;
-        longer.labels[at] = active;
-        return search_from::<W, S>(store, rule, place, active, &longer, at + 1);
-    }
-    let mut above = 0;
-    while let Some(label) = next_candidate(store, &choice.letters, &rule.singles.items[at], above) {
-        if let Some(longer) = extended(store, &rule.singles.items[at], active, choice, at, label) {
-            if let Some(found) = search_from::<W, S>(store, rule, place, active, &longer, at + 1) {
-                return Some(found);
+
+    /// The lowest choice that begins with the labels chosen so far and makes the rule ready.
+    fn search_from<W: Words>(&self, choice: &Choice, at: usize) -> Option<Choice>
+        requires partial { IsPartial (S.meaning self.now.store.now).pairs (rule_seen self.now.rule.now) self.now.place self.now.active (take at choice.now.labels) choice.now.letters }
+        requires at_head { at ≤ self.now.rule.now.singles.count }
+        ensures { IsFound (rule_seen self.now.rule.now) (found_from W.system (rule_seen self.now.rule.now) self.now.place self.now.active (S.meaning self.now.store.now).pairs (take at choice.now.labels)) result }
+    {
+        let Some(head) = self.rule.singles.as_slice().get(at) else {
+            return conditions_hold::<W>(&choice.letters, self.rule).then_some(*choice);
+        };
+        if at == self.place {
+            let mut longer = *choice;
+            longer.labels[at] = self.active;
+            return self.search_from::<W>(&longer, at + 1);
+        }
+        // By hand: a store lends no iterator, and answers each label from the one before it.
+        let mut above = 0;
+        while let Some(label) = next_candidate(self.store, &choice.letters, head, above) {
+            if let Some(longer) = self.extended(head, choice, at, label) {
+                if let Some(found) = self.search_from::<W>(&longer, at + 1) {
+                    return Some(found);
+                }
             }
+            above = label;
         }
-        above = label;
+        None
     }
-    None
-}
 
-/// Whether every head but the active fact's has a fact that may fit it.
-fn all_have_candidates<S: Store>(
-    store: &S,
-    rule: &RuleRecord,
-    place: usize,
-    letters: &Letters,
-) -> bool
-    ensures { result ≡ candidates_stand (S.meaning store.now).pairs letters.now place 0 (held rule.now.singles) }
-{
-    for (at, head) in rule.singles.as_slice().iter().enumerate() {
-        if at != place && next_candidate(store, letters, head, 0).is_none() {
-            return false;
-        }
+    /// Whether every head but the active fact's has a fact that may fit it.
+    fn all_have_candidates(&self, letters: &Letters) -> bool
+        ensures { result ≡ candidates_stand (S.meaning self.now.store.now).pairs letters.now self.now.place 0 (held self.now.rule.now.singles) }
+    {
+        self.rule.singles.as_slice().iter().enumerate().all(|(at, head)| at == self.place
+            || next_candidate(self.store, letters, head, 0).is_some())
     }
-    true
 }
 
 /// The lowest choice of stored facts that makes a rule ready, with the active fact at a place among its single heads.
@@ -141,13 +128,19 @@ pub(crate) fn search<W: Words, S: Store>(
     requires held { read active (S.meaning store.now).pairs ≡ Some fact.now }
     ensures { IsFound (rule_seen rule.now) (chosen W.system (rule_seen rule.now) place active (S.meaning store.now).pairs) result }
 {
-    let letters = bind_fact([None; LETTER_COUNT], &rule.singles.items[place], fact)?;
-    if !all_have_candidates(store, rule, place, &letters) {
+    let letters = bind_fact([None; LETTER_COUNT], &rule.singles.as_slice()[place], fact)?;
+    let searched = Searched {
+        store,
+        rule,
+        place,
+        active,
+    };
+    if !searched.all_have_candidates(&letters) {
         return None;
     }
     let none = Choice {
         labels: [0; SINGLES],
         letters,
     };
-    search_from::<W, S>(store, rule, place, active, &none, 0)
+    searched.search_from::<W>(&none, 0)
 }

@@ -1,5 +1,5 @@
 //! The goals of a job: a stack of at most 512.
-ghost use Rattle.std.specs.Prelude.{◌≡◌, ◌<◌, ◌≤◌, ◌∷◌, [], List, length, reverse, Some, None, IfSome, true};
+ghost use Rattle.std.specs.Prelude.{◌≡◌, ◌<◌, ◌≤◌, ◌∷◌, [], List, length, reverse, Some, IfSome, true};
 ghost use Rattle.machine.specs.declared.goal_types.Goal.{Goal};
 ghost use Rattle.engine.specs.Goals.{top_of, below, fits_store};
 ghost use Rattle.rules.specs.Rules.{all};
@@ -67,9 +67,7 @@ impl Stack {
         ensures rest { self.new ≡ below self.old }
         ensures room { length self.new < 512 }
     {
-        if self.goals.count > 0 {
-            self.goals.count -= 1;
-        }
+        let _goal = self.goals.pop();
     }
 
     /// The top goal is replaced, or the goal is the only one where there is none.

@@ -1,17 +1,17 @@
 //! A step: the top goal is worked on. A run: steps one after the other.
-ghost use Rattle.std.specs.Prelude.{◌≡◌, ◌≤◌, true, [], ◌∷◌, length, Some};
+ghost use Rattle.std.specs.Prelude.{◌≡◌, ◌≤◌, true, [], length, Some};
 ghost use Rattle.rules.specs.Closed.{head, place_seen};
 ghost use Rattle.rules.specs.Sets.{closed_rules};
 ghost use Rattle.stores.specs.Store.{read};
 ghost use Rattle.machine.specs.Machine.{step, run, goal_step, wait_step, look_step, try_step, try_head, applications_of};
 ghost use Rattle.machine.specs.declared.goal_types.Goal.TheVariants.{Wait, Look, Try};
-ghost use Rattle.machine.specs.declared.answer_types.Answer.TheVariants.{Dropped};
 ghost use Rattle.engine.specs.Bringing.{has_kind};
-ghost use Rattle.engine.specs.Goals.{top_of, below, fits_store};
+ghost use Rattle.engine.specs.Goals.{top_of, below};
 ghost use Rattle.machine.specs.Ledger.{stepping, running, to_step, to_run};
 ghost use Rattle.engine.specs.Calls.{Upholds};
 ghost use Rattle.engine.specs.Jobs.{state_of, frame_of, IsOutcome, IsRun};
 
+use crate::found::rule_of;
 use crate::job_type::Job;
 use crate::listening::{Listener, Silent};
 use crate::room::room_in_store;
@@ -25,10 +25,7 @@ use stores::Store;
 fn applications_of(answer: Answer) -> u32
     ensures { result ≡ applications_of answer }
 {
-    match answer {
-        Answer::Applied(_) => 1,
-        _ => 0,
-    }
+    u32::from(matches!(answer, Answer::Applied(_)))
 }
 
 fn tell<L: Listener>(listener: &mut L, answer: &Answer) {
@@ -38,6 +35,8 @@ fn tell<L: Listener>(listener: &mut L, answer: &Answer) {
 }
 
 impl<W: Words + Drop, S: Store + Drop> Job<W, S> {
+    // By hand, here and below: `frame` says what a step leaves as it was, which no type says of a value before and after a call.
+
     // The waiting fact on top is stored under the next label, which is tried from the first head on.
     fn store_waiting(&mut self, fact: Fact) -> Answer
         requires kind { has_kind fact ≡ true }
@@ -56,6 +55,8 @@ impl<W: Words + Drop, S: Store + Drop> Job<W, S> {
     }
 
     // The stored fact of the label is tried at a head: the rule is applied, or the next head is to be tried.
+    // By hand: `wide` ties the caller's list to the job's store, so neither's type can have it; each function down to `apply` asks it.
+    // By hand, here and below: `top` says what the job's top goal is at the call, so no type of a label and a number can have it.
     fn try_at(
         &mut self,
         label: u32,
@@ -72,9 +73,7 @@ impl<W: Words + Drop, S: Store + Drop> Job<W, S> {
         ensures outcome { IsOutcome (try_head (frame_of W.system S.meaning self.old) label number (below self.old.goals) (state_of S.meaning self.old) list.old (place_seen (closed_rules self.old.set) (Some place))) (state_of S.meaning self.new) result list.new }
         ensures frame { frame_of W.system S.meaning self.new ≡ frame_of W.system S.meaning self.old }
     {
-        let Some(rule) = self.set.rule(usize::from(place.rule)) else {
-            unreachable!();
-        };
+        let rule = rule_of(&self.set, place);
         let found = search::<W, S>(&self.store, rule, usize::from(place.place), label, fact);
         match found {
             Some(choice) => self.apply(label, number, place, &choice, list),
@@ -163,7 +162,7 @@ impl<W: Words + Drop, S: Store + Drop> Job<W, S> {
         if list.len() < self.store.capacity() {
             return (End::Stopped(StepFault::List), 0, 0);
         }
-        // Both counts are answered, and the run ends for one of three reasons: there is nothing to enumerate.
+        // By hand: a `for` over the budget would ask at two places whether a goal is left, as that is asked behind the last step too.
         let mut steps = 0;
         let mut applications = 0;
         loop {

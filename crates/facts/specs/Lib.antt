@@ -3,3 +3,4 @@ pub mod Lengths
 pub mod Tags
 pub mod WordExamples
 pub mod Sets
+pub mod Kinds

@@ -1,11 +1,11 @@
 -- Sets of tags by bits: what the bits of a joined word are, and that words below 2 ^ k with the same bits are equal.
-use Rattle.std.specs.Prelude.{◌≡◌, ℕ, zero, suc, ◌+◌, ◌*◌, ◌/◌, ◌%◌, ◌^◌, ◌<◌, ◌≤◌, min, max, Bool, true, false, cond, not, ◌&&◌, ◌||◌, ◌↔◌, ℤ, pos, negsuc, Some, Option, ◌==◌, ◌≢◌, nat_eq, refl}
+use Rattle.std.specs.Prelude.{◌≡◌, ℕ, zero, suc, ◌+◌, ◌*◌, ◌/◌, ◌%◌, ◌^◌, ◌<◌, min, max, Bool, true, false, cond, not, ◌&&◌, ◌||◌, ◌↔◌, ℤ, pos, negsuc, Option, ◌==◌, ◌≢◌, nat_eq, refl}
 use Rattle.std.proofs.Common.{sym, ap, subst, ◌∙◌, arith}
 use Rattle.std.specs.Int.Bits.{bit_and, bit_or, bit_xor, differ, and_step, or_step, xor_step, and_lt}
 use Rattle.std.proofs.lemmas.Nat.{shr-shr, and_shr, or_shr, xor_shr, or_lt, xor_lt}
-use Rattle.std.proofs.lemmas.Bool.{eqb-true, eq-eqb, ltb-true, and_parts, and_from, not_from_false, not-true, both_ways, true≢false}
+use Rattle.std.proofs.lemmas.Bool.{eqb-true, eq-eqb, ltb-true, and_parts, and_from, not_from_false, not-true, both_ways}
 use Rattle.std.proofs.lemmas.Bool.Decides.{nat_tests}
-use Rattle.facts.specs.Tags.{is_set, joined, related, member, tags, JoinsSets, ComparesSets, Meant}
+use Rattle.facts.specs.Tags.{joined, related, member, tags, JoinsSets, ComparesSets, Meant}
 use Rattle.facts.specs.declared.fact_types.Operator.{Operator}
 use Rattle.facts.specs.declared.fact_types.Operator.TheVariants.{Plus, Minus, Meet}
 use Rattle.facts.specs.declared.fact_types.Relation.{Relation}

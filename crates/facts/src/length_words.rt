@@ -10,14 +10,10 @@ use crate::words_trait::Words;
 #[derive(Clone, Copy)]
 pub struct Lengths;
 
-const LEAST: i64 = -2_147_483_648;
-
-const GREATEST: i64 = 2_147_483_647;
-
 fn in_range(word: i64) -> bool
     ensures { result ≡ in_range word }
 {
-    LEAST <= word && word <= GREATEST
+    i32::try_from(word).is_ok()
 }
 
 fn exact_result(operator: Operator, left: i64, right: i64) -> i64
@@ -27,14 +23,14 @@ fn exact_result(operator: Operator, left: i64, right: i64) -> i64
     match operator {
         Operator::Plus => left + right,
         Operator::Minus => left - right,
-        Operator::Meet => if left <= right { left } else { right },
+        Operator::Meet => left.min(right),
     }
 }
 
 fn within_range(number: i64) -> Option<i64>
     ensures { result ≡ within number }
 {
-    if in_range(number) { Some(number) } else { None }
+    in_range(number).then_some(number)
 }
 
 fn compare(relation: Relation, left: i64, right: i64) -> bool
@@ -73,10 +69,6 @@ impl Words for Lengths {
         ensures value { result ≡ lengths.holds relation left right }
         ensures numbers { ComparesNumbers relation left right result }
     {
-        if in_range(left) && in_range(right) {
-            compare(relation, left, right)
-        } else {
-            false
-        }
+        in_range(left) && in_range(right) && compare(relation, left, right)
     }
 }

@@ -2,12 +2,14 @@
 #![tactic(auto)]
 
 mod fact_types;
+mod kinds;
 mod length_words;
 mod tag_words;
 mod word_examples;
 mod words_trait;
 
 pub use fact_types::{Fact, KINDS, Operator, Relation, WORDS};
+pub use kinds::kind_of;
 pub use length_words::Lengths;
 pub use tag_words::Tags;
 pub use word_examples::{

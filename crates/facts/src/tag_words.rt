@@ -1,5 +1,5 @@
 //! Tags: words are sets of 32 tags, joined and compared as sets.
-ghost use Rattle.std.specs.Prelude.{◌≡◌};
+ghost use Rattle.std.specs.Prelude.{◌≡◌, cond, Some, None};
 ghost use Rattle.facts.specs.Tags.{tags, is_set, joined, related, JoinsSets, ComparesSets, bits};
 ghost use Rattle.std.proofs.Common.{arith, rules};
 ghost use Rattle.facts.specs.Sets.{joined_lt};
@@ -11,12 +11,11 @@ use crate::words_trait::Words;
 #[derive(Clone, Copy)]
 pub struct Tags;
 
-const ALL_TAGS: i64 = 4_294_967_295;
-
-fn is_tag_set(word: i64) -> bool
-    ensures { result ≡ is_set word }
+// The bits of a word from 0 to 4,294,967,295, and none of any other.
+fn tag_bits(word: i64) -> Option<u32>
+    ensures { result ≡ cond (is_set word) (Some (bits word)) None }
 {
-    0 <= word && word <= ALL_TAGS
+    u32::try_from(word).ok()
 }
 
 fn joined_bits(operator: Operator, left: u32, right: u32) -> u32
@@ -50,28 +49,24 @@ impl Words for Tags {
     ghost unrelated = { Prim.search rules };
 
     fn valid(word: i64) -> bool {
-        is_tag_set(word)
+        tag_bits(word).is_some()
     }
 
     fn value(operator: Operator, left: i64, right: i64) -> Option<i64>
         ensures value { result ≡ tags.value operator left right }
         ensures sets { JoinsSets operator left right result }
     {
-        if is_tag_set(left) && is_tag_set(right) {
-            Some(i64::from(joined_bits(operator, left as u32, right as u32)))
-        } else {
-            None
-        }
+        let joined = joined_bits(operator, tag_bits(left)?, tag_bits(right)?);
+        Some(i64::from(joined))
     }
 
     fn holds(relation: Relation, left: i64, right: i64) -> bool
         ensures value { result ≡ tags.holds relation left right }
         ensures sets { ComparesSets relation left right result }
     {
-        if is_tag_set(left) && is_tag_set(right) {
-            related_bits(relation, left as u32, right as u32)
-        } else {
-            false
-        }
+        let (Some(left), Some(right)) = (tag_bits(left), tag_bits(right)) else {
+            return false;
+        };
+        related_bits(relation, left, right)
     }
 }

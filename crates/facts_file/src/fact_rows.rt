@@ -10,7 +10,7 @@ ghost use Rattle.facts_file.specs.Facts.{words, most_facts, fact_kind, fact_word
 ghost use Rattle.facts_file.specs.FactScan.{number_field, words_at, fact_at, fact_step, step_seen};
 
 use crate::fault_types::FactFault;
-use facts::{Fact, KINDS, WORDS, Words};
+use facts::{Fact, WORDS, Words, kind_of};
 use rows::{
     Field, FieldFault, Place, Refusal, file_bytes, read_field, read_number, readable, row_of_width,
 };
@@ -32,9 +32,7 @@ fn number(field: Field<'_>) -> Result<i64, FieldFault>
 fn kind(field: Field<'_>) -> Result<u8, FactFault>
     ensures { refused_as fact_refusal result ≡ fact_kind (place_of (field_seen field.entry)).row (place_of (field_seen field.entry)).field (number_in (field_seen field.entry)) }
 {
-    let kind = u8::try_from(number(field)?).ok();
-    kind.filter(|kind| *kind < KINDS)
-        .ok_or(FactFault::Kind(field.place()))
+    kind_of(number(field)?).ok_or(FactFault::Kind(field.place()))
 }
 
 fn word<W: Words>(field: Field<'_>) -> Result<i64, FactFault>
@@ -48,6 +46,8 @@ fn word<W: Words>(field: Field<'_>) -> Result<i64, FactFault>
     }
 }
 
+// The bytes and the row's number stay two parameters: the bytes go on from field to field, and the number does not.
+// `as`, here and below: fields and rows are counted by `usize` up to 4 and to 513, so that nothing is cut off.
 fn read_words<W: Words>(bytes: &[u8], row: u32) -> Result<[i64; WORDS], FactFault>
     ensures { refused_as fact_refusal result ≡ words_at W.Words.system.valid row 2 words bytes.now }
 {
@@ -91,7 +91,7 @@ fn next_fact<'a, W: Words>(bytes: &'a [u8], row: u32) -> Result<(Fact, &'a [u8])
     Ok((fact, rest))
 }
 
-// The count is the answer, and it numbers the rows: the bytes are no collection of rows to go over.
+// The count is the answer, and it numbers the rows, as in `row_count`: an iterator of rows would leave it to be counted here.
 fn load_rows<W: Words>(bytes: &[u8], table: &mut [Fact; MOST_FACTS]) -> Result<usize, FactFault>
     ensures answer { refused_as fact_refusal result ≡ fact_count (fact_rows W.Words.system.valid 1 (rows bytes.now)) }
     ensures table { table.new ≡ over (fact_front W.Words.system.valid 1 (rows bytes.now)) table.old }

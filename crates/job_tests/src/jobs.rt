@@ -1,4 +1,5 @@
 //! Jobs of the tests: each function does something with a job and asserts what comes of it.
+// The job and the list stay two parameters: tests call the job itself in between, and one list is too short on purpose.
 use engine::Job;
 use facts::{Fact, Lengths, WORDS};
 use machine::{Answer, End};

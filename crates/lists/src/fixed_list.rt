@@ -1,5 +1,5 @@
 //! What a list in an array answers, and how it grows and shrinks.
-ghost use Rattle.std.specs.Prelude.{◌≡◌, ◌≤◌, ◌∷◌, ◌++◌, [], length, true, nat_lt};
+ghost use Rattle.std.specs.Prelude.{◌≡◌, ◌≤◌, ◌∷◌, ◌++◌, ◌-◌, [], length, take, true, nat_lt, slice_get};
 ghost use Rattle.lists.specs.Held.{held};
 
 use crate::fixed_list_type::FixedList;
@@ -46,6 +46,16 @@ impl<T: Copy, const N: usize> FixedList<T, N> {
     {
         self.items[self.count] = item;
         self.count += 1;
+    }
+
+    /// The last item, which goes, or none where there are no items.
+    pub fn pop(&mut self) -> Option<T>
+        ensures last { result ≡ slice_get (held self.old) (length (held self.old) - 1) }
+        ensures rest { held self.new ≡ take (length (held self.old) - 1) (held self.old) }
+    {
+        let last = self.count.checked_sub(1)?;
+        self.count = last;
+        Some(self.items[last])
     }
 
     /// All items go.

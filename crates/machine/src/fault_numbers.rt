@@ -20,21 +20,20 @@ impl PostFault {
     }
 
     /// The fact that the fault names, from 1, or 0.
+    // No Option: 0 for none is what is promised to those who print it.
     pub fn named_fact(self) -> usize
         ensures { result ≡ named_fact self }
     {
         match self {
-            PostFault::Kind(fact) => fact,
-            PostFault::Word(fact) => fact,
-            PostFault::Goals => 0,
-            PostFault::Facts => 0,
-            PostFault::Labels => 0,
+            PostFault::Kind(fact) | PostFault::Word(fact) => fact,
+            PostFault::Goals | PostFault::Facts | PostFault::Labels => 0,
         }
     }
 }
 
 impl StepFault {
     /// The number by which a fault is named.
+    // A method: `u8::from(fault)` would not say that it is the number of the fault.
     pub fn number(self) -> u8
         ensures { result ≡ step_fault_number self }
     {

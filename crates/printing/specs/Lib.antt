@@ -1,2 +1,3 @@
 pub mod Print
 pub mod Checks
+pub mod Ends

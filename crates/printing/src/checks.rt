@@ -1,5 +1,5 @@
 //! What the check of a file comes to, and the row that it prints.
-ghost use Rattle.std.specs.Prelude.{◌≡◌};
+ghost use Rattle.std.specs.Prelude.{◌≡◌, ◌≤◌, IfOk};
 ghost use Rattle.std.specs.Option.{option_map};
 ghost use Rattle.facts.specs.Lengths.{lengths};
 ghost use Rattle.facts_file.specs.Facts.{fact_count, facts_file, facts_before, over, FactsLoaded};
@@ -46,6 +46,7 @@ pub fn check_facts(file: Option<&[u8]>, table: &mut [Fact; MOST_FACTS]) -> Resul
     ensures print { print_of result ≡ check_print (fact_count (facts_file lengths.valid (option_map (λ x. x.now) file.entry))) }
     ensures table { table.new ≡ over (facts_before lengths.valid (option_map (λ x. x.now) file.entry)) table.old }
     ensures loaded { FactsLoaded lengths.valid (option_map (λ x. x.now) file.entry) (outcome_of result) table.new }
+    ensures bound { IfOk result (λ count. count ≤ 512) }
 {
     Ok(load_facts::<Lengths>(file, table)?)
 }

@@ -1,8 +1,11 @@
 //! A job is driven to its end, and what it leaves is printed.
-ghost use Rattle.std.specs.Prelude.{◌≡◌, List};
+ghost use Rattle.std.specs.Prelude.{◌≡◌, List, IfOk};
+ghost use Rattle.facts.specs.Lengths.{lengths};
+ghost use Rattle.rules.specs.Sets.{closed_rules};
 ghost use Rattle.machine.specs.Ledger.{Act, Reply, History, IsIdle};
 ghost use Rattle.machine.specs.Machine.{run};
 ghost use Rattle.engine.specs.Jobs.{state_of, frame_of, IsRun};
+ghost use Rattle.printing.specs.Ends.{job_end};
 
 use crate::lines::{apply_row, end_row, fact_row};
 use engine::{Job, Listener};
@@ -79,7 +82,9 @@ pub fn print_job<S: Store + Drop, R: Print>(
     set: ClosedSet<Lengths>,
     store: S,
     facts: &[Fact],
-) -> io::Result<Option<(End, u32)>> {
+) -> io::Result<Option<(End, u32)>>
+    ensures { IfOk result (λ answer. answer ≡ job_end lengths (closed_rules set) (S.meaning store) facts.now) }
+{
     let Ok(()) = Job::<Lengths, S>::may_create(&store) else {
         return Ok(None);
     };

@@ -10,6 +10,7 @@ use rows::{FieldFault, Place, read_field};
 
 impl<'a> RuleRow<'a> {
     // The row of this number at the beginning of the bytes; none where it has fewer than six fields.
+    // `as`, here and below: a field's number is at most 6. Not one loop with `facts_file`, which judges each field as it reads it.
     pub(crate) fn read(bytes: &'a [u8], row: u32) -> Option<RuleRow<'a>>
         ensures cells { option_map cells result ≡ texts_at 6 bytes.now }
         ensures row { IfSome result (λ x. x.row ≡ row) }
@@ -32,7 +33,7 @@ impl<'a> RuleRow<'a> {
         Place::whole_row(self.row)
     }
 
-    // The field of this number, from 1 to 6.
+    // The field of this number, from 1 to 6. Each function asks for a range of its own, so no type of a number has them all.
     pub(crate) fn cell(&self, number: usize) -> Cell<'a>
         requires { (1 ≤ number) × (number ≤ 6) }
         ensures text { result.text.now ≡ at number (cells self.now) }

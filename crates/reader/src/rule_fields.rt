@@ -1,5 +1,5 @@
 //! The fields of a row of rules: which word, number, argument, term or relation stands there, and how the rule set judges it.
-ghost use Rattle.std.specs.Prelude.{◌≡◌, Bool, Ok, Result};
+ghost use Rattle.std.specs.Prelude.{◌≡◌, ℕ, Bool, List, Ok, Option, Result};
 ghost use Rattle.rules.specs.declared.rule_types.RuleFault.{RuleFault};
 ghost use Rattle.rules.specs.declared.rule_types.Term.{Term};
 ghost use Rattle.rules.specs.Writing.{kind_verdict, over_verdict, term_verdict};
@@ -39,31 +39,6 @@ fn argument_of(mark: Mark) -> Result<Argument, RuleFault>
     }
 }
 
-fn judge_argument<W: Words>(
-    rule: &RuleHead<W>,
-    sort: HeadSort,
-    argument: Argument,
-) -> Result<(), RuleFault>
-    ensures { result ≡ argument_verdict W.Words.system.valid (head_draft rule.now) sort argument }
-{
-    match sort {
-        HeadSort::Keep | HeadSort::Drop => rule.judge_single(argument),
-        _ => rule.judge_all(argument),
-    }
-}
-
-fn judge_mark<W: Words>(
-    rule: &RuleHead<W>,
-    sort: HeadSort,
-    mark: Mark,
-) -> Result<Argument, RuleFault>
-    ensures { result ≡ mark_verdict (argument_verdict W.Words.system.valid (head_draft rule.now) sort) mark }
-{
-    let argument = argument_of(mark)?;
-    judge_argument(rule, sort, argument)?;
-    Ok(argument)
-}
-
 /// A rule that is being written, for what it says of a term.
 pub(crate) trait JudgesTerms {
     ghost says: { Self → Bool → Term → Result (Unit {0}) RuleFault };
@@ -88,6 +63,84 @@ impl<W: Words> JudgesTerms for RuleBody<W> {
     }
 }
 
+/// What judges the fields of a part alike: how the text of one is read, and what the rule being written makes of it.
+pub(crate) trait Judges {
+    type Said;
+
+    type Judged: Copy;
+
+    ghost reads: { List ℕ → Option Self.Said };
+
+    ghost verdict: { Self → Self.Said → Result Self.Judged RuleFault };
+
+    fn judge(&self, cell: Cell<'_>) -> Result<Self::Judged, RowFault>
+        ensures { refused_as row_refusal result ≡ judged cell.entry.place.row cell.entry.place.field (verdict self.now) (reads cell.entry.text.now) };
+}
+
+/// The arguments of a head of this sort.
+#[derive(Clone, Copy)]
+pub(crate) struct Arguments<'a, W> {
+    pub rule: &'a RuleHead<W>,
+    pub sort: HeadSort,
+}
+
+impl<W: Words> Arguments<'_, W> {
+    fn judge_argument(&self, argument: Argument) -> Result<(), RuleFault>
+        ensures { result ≡ argument_verdict W.Words.system.valid (head_draft self.now.rule.now) self.now.sort argument }
+    {
+        match self.sort {
+            HeadSort::Keep | HeadSort::Drop => self.rule.judge_single(argument),
+            _ => self.rule.judge_all(argument),
+        }
+    }
+
+    fn judge_mark(&self, mark: Mark) -> Result<Argument, RuleFault>
+        ensures { result ≡ mark_verdict (argument_verdict W.Words.system.valid (head_draft self.now.rule.now) self.now.sort) mark }
+    {
+        let argument = argument_of(mark)?;
+        self.judge_argument(argument)?;
+        Ok(argument)
+    }
+}
+
+impl<W: Words> Judges for Arguments<'_, W> {
+    type Said = Mark;
+
+    type Judged = Argument;
+
+    ghost reads = { argument };
+
+    ghost verdict = { λ s m. mark_verdict (argument_verdict W.Words.system.valid (head_draft s.rule.now) s.sort) m };
+
+    fn judge(&self, cell: Cell<'_>) -> Result<Argument, RowFault> {
+        let mark = readable(read_argument(cell.text), cell.place)?;
+        placed(self.judge_mark(mark), cell.place)
+    }
+}
+
+/// The terms of a part, which may name words of the fact taken or may not.
+#[derive(Clone, Copy)]
+pub(crate) struct Terms<'a, J> {
+    pub rule: &'a J,
+    pub taken: bool,
+}
+
+impl<J: JudgesTerms> Judges for Terms<'_, J> {
+    type Said = Term;
+
+    type Judged = Term;
+
+    ghost reads = { term };
+
+    ghost verdict = { λ s t. passing (J.JudgesTerms.says s.rule.now s.taken) t };
+
+    fn judge(&self, cell: Cell<'_>) -> Result<Term, RowFault> {
+        let term = readable(read_term(cell.text), cell.place)?;
+        placed(self.rule.judge(self.taken, term), cell.place)?;
+        Ok(term)
+    }
+}
+
 impl<'a> Cell<'a> {
     // The relation that stands in the field.
     pub(crate) fn relation(self) -> Result<Relation, RowFault>
@@ -107,25 +160,6 @@ impl<'a> Cell<'a> {
     {
         let number = self.number()?;
         placed(judge_kind(number), self.place)
-    }
-
-    pub(crate) fn argument<W: Words>(
-        self,
-        rule: &RuleHead<W>,
-        sort: HeadSort,
-    ) -> Result<Argument, RowFault>
-        ensures { refused_as row_refusal result ≡ judged self.entry.place.row self.entry.place.field (mark_verdict (argument_verdict W.Words.system.valid (head_draft rule.now) sort)) (argument self.entry.text.now) }
-    {
-        let mark = readable(read_argument(self.text), self.place)?;
-        placed(judge_mark(rule, sort, mark), self.place)
-    }
-
-    pub(crate) fn term<J: JudgesTerms>(self, rule: &J, taken: bool) -> Result<Term, RowFault>
-        ensures { refused_as row_refusal result ≡ judged self.entry.place.row self.entry.place.field (passing (J.JudgesTerms.says rule.now taken)) (term self.entry.text.now) }
-    {
-        let term = readable(read_term(self.text), self.place)?;
-        placed(rule.judge(taken, term), self.place)?;
-        Ok(term)
     }
 
     // The number of an all head.

@@ -8,7 +8,7 @@ ghost use Rattle.rules_file.specs.RuleRows.{judged_each, passing, mark_verdict, 
 ghost use Rattle.reader.specs.RuleScan.{cells, argument_verdict};
 
 use crate::row_types::RuleRow;
-use crate::rule_fields::JudgesTerms;
+use crate::rule_fields::{Arguments, Judges, JudgesTerms, Terms};
 use facts::{WORDS, Words};
 use rules::{
     Argument, BodyPart, BodySort, Comparison, GiveAll, HeadPart, HeadSort, Operand, Pattern,
@@ -16,47 +16,49 @@ use rules::{
 };
 use rules_file::RowFault;
 
-// The arguments of a head, in fields 3 to 5.
-// Not one function with `read_terms`: it would take a closure for the item, and its contract would say in general what each call gave.
-fn arguments<W: Words>(
-    rule: &RuleHead<W>,
-    sort: HeadSort,
+// What stands in a list of terms before they are read.
+const NO_TERM: Term = Term::One(Operand::Constant(0));
+
+// The three fields from this one on, each judged alike.
+fn read_words<J: Judges>(
+    judge: &J,
+    blank: J::Judged,
     row: &RuleRow<'_>,
-) -> Result<[Argument; WORDS], RowFault>
-    ensures { refused_as row_refusal result ≡ judged_each row.now.row 3 argument (mark_verdict (argument_verdict W.Words.system.valid (head_draft rule.now) sort)) (words_from 3 (cells row.now)) }
+    first: usize,
+) -> Result<[J::Judged; WORDS], RowFault>
+    requires { (1 ≤ first) × (first ≤ 4) }
+    ensures { refused_as row_refusal result ≡ judged_each row.now.row first J.Judges.reads (J.Judges.verdict judge.now) (words_from first (cells row.now)) }
 {
-    let mut args = [Argument::Any; WORDS];
-    for (i, arg) in args.iter_mut().enumerate() {
-        *arg = row.cell(3 + i).argument(rule, sort)?;
+    let mut words = [blank; WORDS];
+    for (i, word) in words.iter_mut().enumerate() {
+        *word = judge.judge(row.cell(first + i))?;
     }
-    Ok(args)
+    Ok(words)
 }
 
 // A head: its kind, its arguments, and a field that is not used.
 fn read_pattern<W: Words>(
-    rule: &RuleHead<W>,
-    sort: HeadSort,
+    arguments: &Arguments<'_, W>,
     row: &RuleRow<'_>,
 ) -> Result<Pattern, RowFault>
-    ensures { refused_as row_refusal result ≡ head row.now.row (argument_verdict W.Words.system.valid (head_draft rule.now) sort) (cells row.now) }
+    ensures { refused_as row_refusal result ≡ head row.now.row (argument_verdict W.Words.system.valid (head_draft arguments.now.rule.now) arguments.now.sort) (cells row.now) }
 {
     let kind = row.cell(2).kind()?;
-    let args = arguments(rule, sort, row)?;
+    let args = read_words(arguments, Argument::Any, row, 3)?;
     row.unused_from(6)?;
     Ok(Pattern { kind, args })
 }
 
 // A comparison: a term, a relation, a term, and two fields that are not used.
 fn read_comparison<J: JudgesTerms>(
-    rule: &J,
-    taken: bool,
+    terms: &Terms<'_, J>,
     row: &RuleRow<'_>,
 ) -> Result<Comparison, RowFault>
-    ensures { refused_as row_refusal result ≡ comparison row.now.row (J.JudgesTerms.says rule.now taken) (cells row.now) }
+    ensures { refused_as row_refusal result ≡ comparison row.now.row (J.JudgesTerms.says terms.now.rule.now terms.now.taken) (cells row.now) }
 {
-    let left = row.cell(2).term(rule, taken)?;
+    let left = terms.judge(row.cell(2))?;
     let relation = row.cell(3).relation()?;
-    let right = row.cell(4).term(rule, taken)?;
+    let right = terms.judge(row.cell(4))?;
     row.unused_from(5)?;
     Ok(Comparison {
         left,
@@ -65,35 +67,17 @@ fn read_comparison<J: JudgesTerms>(
     })
 }
 
-// The terms of a fact, from this field on.
-fn read_terms<J: JudgesTerms>(
-    rule: &J,
-    taken: bool,
-    row: &RuleRow<'_>,
-    first: usize,
-) -> Result<[Term; WORDS], RowFault>
-    requires { (1 ≤ first) × (first ≤ 4) }
-    ensures { refused_as row_refusal result ≡ judged_each row.now.row first term (passing (J.JudgesTerms.says rule.now taken)) (words_from first (cells row.now)) }
-{
-    let mut terms = [Term::One(Operand::Constant(0)); WORDS];
-    for (i, term) in terms.iter_mut().enumerate() {
-        *term = row.cell(first + i).term(rule, taken)?;
-    }
-    Ok(terms)
-}
-
 // A fact of the body, whose kind stands in this field: its kind, its terms, and what is not used.
 fn read_template<J: JudgesTerms>(
-    rule: &J,
-    taken: bool,
+    terms: &Terms<'_, J>,
     row: &RuleRow<'_>,
     first: usize,
 ) -> Result<Template, RowFault>
     requires { (2 ≤ first) × (first ≤ 3) }
-    ensures { refused_as row_refusal result ≡ template row.now.row first (J.JudgesTerms.says rule.now taken) (cells row.now) }
+    ensures { refused_as row_refusal result ≡ template row.now.row first (J.JudgesTerms.says terms.now.rule.now terms.now.taken) (cells row.now) }
 {
     let kind = row.cell(first).kind()?;
-    let terms = read_terms(rule, taken, row, first + 1)?;
+    let terms = read_words(terms, NO_TERM, row, first + 1)?;
     row.unused_from(first + 4)?;
     Ok(Template { kind, terms })
 }
@@ -106,12 +90,36 @@ pub(crate) fn read_head_part<W: Words>(
     ensures { refused_as row_refusal result ≡ head_part W.Words.system.valid row.now.row (head_draft rule.now) sort (cells row.now) }
 {
     match sort {
-        HeadSort::Keep => read_pattern(rule, HeadSort::Keep, row).map(HeadPart::Keep),
-        HeadSort::Drop => read_pattern(rule, HeadSort::Drop, row).map(HeadPart::Drop),
-        HeadSort::KeepAll => read_pattern(rule, HeadSort::KeepAll, row).map(HeadPart::KeepAll),
-        HeadSort::DropAll => read_pattern(rule, HeadSort::DropAll, row).map(HeadPart::DropAll),
-        HeadSort::Only => read_comparison(rule, true, row).map(HeadPart::Only),
-        HeadSort::When => read_comparison(rule, false, row).map(HeadPart::When),
+        HeadSort::Keep => {
+            let arguments = Arguments {
+                rule,
+                sort: HeadSort::Keep,
+            };
+            read_pattern(&arguments, row).map(HeadPart::Keep)
+        }
+        HeadSort::Drop => {
+            let arguments = Arguments {
+                rule,
+                sort: HeadSort::Drop,
+            };
+            read_pattern(&arguments, row).map(HeadPart::Drop)
+        }
+        HeadSort::KeepAll => {
+            let arguments = Arguments {
+                rule,
+                sort: HeadSort::KeepAll,
+            };
+            read_pattern(&arguments, row).map(HeadPart::KeepAll)
+        }
+        HeadSort::DropAll => {
+            let arguments = Arguments {
+                rule,
+                sort: HeadSort::DropAll,
+            };
+            read_pattern(&arguments, row).map(HeadPart::DropAll)
+        }
+        HeadSort::Only => read_comparison(&Terms { rule, taken: true }, row).map(HeadPart::Only),
+        HeadSort::When => read_comparison(&Terms { rule, taken: false }, row).map(HeadPart::When),
     }
 }
 
@@ -123,10 +131,10 @@ pub(crate) fn read_body_part<W: Words>(
     ensures { refused_as row_refusal result ≡ body_part W.Words.system.valid row.now.row (body_draft rule.now) sort (cells row.now) }
 {
     match sort {
-        BodySort::Give => read_template(rule, false, row, 2).map(BodyPart::Give),
+        BodySort::Give => read_template(&Terms { rule, taken: false }, row, 2).map(BodyPart::Give),
         BodySort::GiveAll => {
             let over = row.cell(2).over(rule)?;
-            let each = read_template(rule, true, row, 3)?;
+            let each = read_template(&Terms { rule, taken: true }, row, 3)?;
             Ok(BodyPart::GiveAll(GiveAll { over, each }))
         }
     }

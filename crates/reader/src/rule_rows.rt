@@ -24,7 +24,7 @@ fn next_row<'a>(bytes: &'a [u8], row: u32) -> Result<(RuleRow<'a>, &'a [u8]), Ro
     Ok((cells, rest))
 }
 
-// The rows are numbered by hand: the bytes are no collection of rows to go over.
+// The rows are numbered by hand, as in `row_count`: an iterator's item would carry the number, the bytes and the width that are at hand.
 fn load_rows<W: Words>(bytes: &[u8]) -> Result<ClosedSet<W>, RowFault>
     requires { length bytes.now ≤ 65536 }
     ensures { refused_as row_refusal (closed_result result) ≡ write_rows W.Words.system.valid 1 no_rule (rows bytes.now) }

@@ -1,10 +1,9 @@
 -- Numbers: exactly the decimal writings are read.
-use Rattle.std.proofs.Common.{◌≡◌, ℕ, suc, ◌+◌, ◌-◌, ◌*◌, ◌^◌, ◌<◌, ◌≤◌, Bool, true, false, cond, ◌&&◌, eqb, leb, List, [], ◌∷◌, length, get_or, take, drop, ℤ, pos, neg_ℤ, Some, None, Option, sym, refl, ap, ◌∙◌, subst, mul_assoc, mul_comm, add-mul, pow-suc, mul_left_comm, add-one, arith}
+use Rattle.std.proofs.Common.{◌≡◌, ℕ, suc, ◌+◌, ◌-◌, ◌*◌, ◌^◌, ◌<◌, ◌≤◌, Bool, true, false, cond, ◌&&◌, eqb, leb, List, [], ◌∷◌, length, get_or, drop, ℤ, pos, neg_ℤ, Some, None, Option, sym, refl, ap, ◌∙◌, subst, mul_assoc, mul_comm, add-mul, pow-suc, mul_left_comm, add-one, arith}
 use native.Mathlib.Nat.{pow-le-pow_right}
 use Rattle.std.proofs.lemmas.Bool.{eqb-true, leb-true, le-leb, and_parts}
 use Rattle.std.proofs.lemmas.List.{drop_more, drop_all}
 use Rattle.std.proofs.lemmas.Bool.Decides.{nat_tests}
-use Rattle.rows.proofs.Scans.{rest_of-one}
 use Rattle.rows.specs.Numbers.{minus, is_digit, all_digits, digits, value_after, unsigned, positive, negative, number, places, Digits, Decimal, NumberGrammar}
 
 -- digits behind a number move it up by their places
@@ -124,18 +123,3 @@ pub right-length-is : (bs : List ℕ) → (leb 1 (length bs) && leb (length bs) 
 right-length-is bs h =
     let p = and_parts (leb 1 (length bs)) (leb (length bs) 10) h in
     (leb-true 1 (length bs) p.0, leb-true (length bs) 10 p.1)
-
--- the sign ----------------------------------------------------------------------------------------------------
-
-pub number-minus : (bs : List ℕ) → get_or bs 0 0 ≡ minus → number bs ≡ negative (unsigned (take (length bs - 1) (drop 1 bs)))
-number-minus bs e = ap number (rest_of-one bs 44 e)
-
-pub number-plain : (bs : List ℕ) → eqb (get_or bs 0 0) minus ≡ false → number bs ≡ positive (unsigned bs)
-number-plain [] e = refl
-number-plain (b ∷ bs) e = rw e
-
-pub reads-negated : (bs : List ℕ) (n : ℕ) (z : ℤ) → get_or bs 0 0 ≡ minus → Some n ≡ unsigned (take (length bs - 1) (drop 1 bs)) → z ≡ neg_ℤ (pos n) → Some z ≡ number bs
-reads-negated bs n z e u h = ap (λ (x : ℤ). Some x) h ∙ ap negative u ∙ sym (number-minus bs e)
-
-pub reads_plain : (bs : List ℕ) (n : ℕ) (z : ℤ) → eqb (get_or bs 0 0) minus ≡ false → Some n ≡ unsigned bs → z ≡ pos n → Some z ≡ number bs
-reads_plain bs n z e u h = ap (λ (x : ℤ). Some x) h ∙ ap positive u ∙ sym (number-plain bs e)

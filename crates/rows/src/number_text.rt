@@ -1,5 +1,6 @@
 //! Numbers: an optional minus and one to ten digits.
-ghost use Rattle.std.specs.Prelude.{◌≡◌, ◌^◌, ◌<◌, ◌&&◌, length, pos, neg_ℤ, IfSome, nat_le};
+ghost use Rattle.std.specs.Prelude.{◌≡◌, ◌^◌, ◌<◌, ◌&&◌, length, pos, IfSome, nat_le};
+ghost use Rattle.std.specs.Option.{option_map};
 ghost use Rattle.rows.specs.Numbers.{is_digit, unsigned, number, NumberGrammar};
 
 const MOST_DIGITS: usize = 10;
@@ -13,7 +14,7 @@ fn is_digit(byte: u8) -> bool
 fn right_length(text: &[u8]) -> bool
     ensures { result ≡ (nat_le 1 (length text.now) && nat_le (length text.now) 10) }
 {
-    1 <= text.len() && text.len() <= MOST_DIGITS
+    (1..=MOST_DIGITS).contains(&text.len())
 }
 
 // Read by hand: the library's parse takes a plus and any number of digits, and is asked of a `str`.
@@ -34,12 +35,20 @@ fn unsigned_number(text: &[u8]) -> Option<u64>
     Some(value)
 }
 
-// By `as`, here and below: the library has no `i64` from a `u64` that cannot fail.
-fn negated(value: u64) -> i64
-    requires { value < 10 ^ 10 }
-    ensures { result ≡ neg_ℤ (pos value) }
+// The number, which has at most ten digits and so always fits.
+fn plain_number(text: &[u8]) -> Option<i64>
+    ensures { result ≡ option_map pos (unsigned text.now) }
 {
-    -(value as i64)
+    i64::try_from(unsigned_number(text)?).ok()
+}
+
+fn number_written(text: &[u8]) -> Option<i64>
+    ensures { result ≡ number text.now }
+{
+    match text {
+        [b'-', digits @ ..] => Some(-plain_number(digits)?),
+        _ => plain_number(text),
+    }
 }
 
 /// The number that the text writes; none where it writes no number.
@@ -47,16 +56,7 @@ pub fn read_number(text: &[u8]) -> Option<i64>
     ensures reads { result ≡ number text.now }
     ensures grammar { NumberGrammar text.now result }
 {
-    match text {
-        [b'-', digits @ ..] => {
-            let value = unsigned_number(digits)?;
-            Some(negated(value))
-        }
-        _ => {
-            let value = unsigned_number(text)?;
-            Some(value as i64)
-        }
-    }
+    number_written(text)
 }
 
 #[cfg(test)]

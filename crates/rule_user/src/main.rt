@@ -21,6 +21,7 @@ enum Failed {
     Output(io::Error),
 }
 
+// By hand, here and below: `?` asks for each conversion, and none is derived.
 impl From<RuleFault> for Failed {
     ghost from_gives = { λ e f. f ≡ Refused e };
 
@@ -65,7 +66,7 @@ fn far_end() -> Template {
     }
 }
 
-// Of two equal points one is enough.
+// Of two equal points one is enough. Each rule is written out: this program shows how one is written.
 fn with_one_point(set: OpenSet<Lengths>) -> Result<OpenSet<Lengths>, RuleFault>
     ensures { IfOk result (λ s. length (open_rules s) ≡ length (open_rules set) + 1) }
 {

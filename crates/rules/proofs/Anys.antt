@@ -1,21 +1,12 @@
--- A test over a list: a search through it step by step, and a list of which each element passes.
-use Rattle.std.proofs.Common.{◌≡◌, ℕ, zero, suc, ◌+◌, ◌<◌, ◌≤◌, Bool, true, false, ◌||◌, List, [], ◌∷◌, map, length, get_or, drop, sym, refl, ap, ◌∙◌, arith}
-use Rattle.std.proofs.lemmas.List.{at_drop_more, at_drop_all}
+-- A test over a list, as the library writes it, and a list of which each element passes.
+use Rattle.std.proofs.Common.{◌≡◌, ℕ, zero, suc, ◌<◌, Bool, true, ◌||◌, List, [], ◌∷◌, map, length, get_or, refl, ap, arith}
+use Rattle.std.specs.List.{list_any}
 use Rattle.std.proofs.lemmas.Bool.{and_parts}
 use Rattle.rules.specs.Rules.{any, all}
 
--- the first i did not pass
-abbrev pub Left : {X : Type 0} → (X → Bool) → List X → ℕ → Type 0
-Left p xs i = any p xs ≡ any p (drop i xs)
-
-pub left-more : {X : Type 0} (p : X → Bool) (xs : List X) (i : ℕ) (d : X) → i < length xs → p (get_or xs i d) ≡ false → Left p xs i → Left p xs (i + 1)
-left-more p xs i d h f l = l ∙ at_drop_more (any p) xs i d h ∙ rw f
-
-pub left-found : {X : Type 0} (p : X → Bool) (xs : List X) (i : ℕ) (d : X) → i < length xs → p (get_or xs i d) ≡ true → Left p xs i → true ≡ any p xs
-left-found p xs i d h t l = sym (l ∙ at_drop_more (any p) xs i d h ∙ rw t)
-
-pub left-all : {X : Type 0} (p : X → Bool) (xs : List X) (i : ℕ) → length xs ≤ i → Left p xs i → false ≡ any p xs
-left-all p xs i h l = sym (l ∙ at_drop_all (any p) xs i h)
+pub list_any-is : {X : Type 0} (p : X → Bool) (xs : List X) → list_any p xs ≡ any p xs
+list_any-is p [] = refl
+list_any-is p (x ∷ xs) = ap (λ (b : Bool). p x || b) (list_any-is p xs)
 
 pub any-map : {X Y : Type 0} (p : Y → Bool) (f : X → Y) (xs : List X) → any p (map f xs) ≡ any (λ x. p (f x)) xs
 any-map p f [] = refl

@@ -21,6 +21,8 @@ use Rattle.rules.specs.declared.rule_types.HeadPart.TheVariants as head_part
 use Rattle.rules.specs.declared.rule_types.BodyPart.{BodyPart}
 use Rattle.rules.specs.declared.rule_types.BodyPart.TheVariants as body_part
 use Rattle.rules.specs.declared.rule_types.RuleRecord.{RuleRecord}
+use Rattle.rules.specs.declared.ordering.LastPart.{LastPart}
+use Rattle.rules.specs.declared.ordering.LastPart.TheVariants as last
 use Rattle.rules.specs.Rules.{AllHead, Rule, rule_seen, singles, bound}
 
 -- the number of each fault
@@ -50,6 +52,16 @@ place_of_last keeps drops alls whens gives givealls =
     (cond (nat_lt 0 alls) 3
     (cond (nat_lt 0 drops) 2
     (cond (nat_lt 0 keeps) 1 0)))))
+
+-- the number of the place of each sort of last part
+abbrev pub last_number : LastPart → ℕ
+last_number last.Nothing = 0
+last_number last.Keep = 1
+last_number last.Drop = 2
+last_number last.AllHead = 3
+last_number last.When = 4
+last_number last.Give = 5
+last_number last.GiveAll = 6
 
 abbrev pub stage : Rule → ℕ
 stage r = place_of_last (length r.keeps) (length r.drops) (length r.alls) (length r.whens) (length r.gives) (length r.givealls)
@@ -184,6 +196,10 @@ abbrev pub with_giveall : GiveAll → Rule → Rule
 with_giveall g r = record { keeps = r.keeps; drops = r.drops; alls = r.alls; whens = r.whens; gives = r.gives; givealls = r.givealls ++ (g ∷ []) }
 
 -- the parts: 9, 4, the fields from left to right, and then the part is added -----------------------------------------
+
+-- a part of any sort: whether it may come next, how its fields are judged, and the rule with it
+abbrev pub add_part : Result (Unit {0}) RuleFault → Result (Unit {0}) RuleFault → Rule → Result Rule RuleFault
+add_part may verdict new = may >>= λ _. verdict >>= λ _. Ok new
 
 abbrev pub add_keep : (ℤ → Bool) → Pattern → Rule → Result Rule RuleFault
 add_keep valid p r = may_add Keep r >>= λ _. pattern_verdict (single_verdict valid) p >>= λ _. Ok (with_keep p r)

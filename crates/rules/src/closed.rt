@@ -60,8 +60,10 @@ impl<W: Words> ClosedSet<W> {
     fn is_watched(&self, kind: u8) -> bool
         ensures { result ≡ any (names kind) (closed_rules self.now) }
     {
-        let kind = usize::from(kind);
-        kind < self.watched.len() && self.watched[kind]
+        self.watched
+            .get(usize::from(kind))
+            .copied()
+            .unwrap_or(false)
     }
 
     /// Whether the fact is watched: some all head of the set names its kind. No fact of a kind above 63 is.

@@ -6,6 +6,7 @@ use crate::rule_types::RuleFault;
 
 impl RuleFault {
     /// The number by which a fault is named.
+    // A method: `u8::from(fault)` would not say that it is the number of the fault.
     pub fn number(self) -> u8
         ensures { result ≡ fault_number self }
     {

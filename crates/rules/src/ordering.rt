@@ -1,9 +1,21 @@
 //! Which part may come next in a rule: the order of parts, and how many there may be of each.
 ghost use Rattle.std.specs.Prelude.{◌≡◌, ℕ, Bool, length};
 ghost use Rattle.rules.specs.Rules.{Rule, rule_seen};
-ghost use Rattle.rules.specs.Writing.{stage, late, late_body, last_only, full, full_body, in_order};
+ghost use Rattle.rules.specs.Writing.{last_number, stage, late, late_body, last_only, full, full_body, in_order};
 
 use crate::rule_types::{BodySort, HeadSort, ONLYS, RuleFault, RuleRecord};
+
+/// The last part of a rule, in the order in which parts stand. An `only` stands with its all head.
+#[derive(Clone, Copy, PartialEq, Eq, PartialOrd, Ord)]
+pub(crate) enum LastPart {
+    Nothing,
+    Keep,
+    Drop,
+    AllHead,
+    When,
+    Give,
+    GiveAll,
+}
 
 /// A sort of part: behind which parts it may not stand, and where a rule has as many of it as it may.
 pub(crate) trait PartSort: Copy {
@@ -11,8 +23,8 @@ pub(crate) trait PartSort: Copy {
 
     ghost full: { Self → Rule → Bool };
 
-    fn is_late(self, place: u8) -> bool
-        ensures { result ≡ late self place };
+    fn is_late(self, last: LastPart) -> bool
+        ensures { result ≡ late self (last_number last) };
 
     fn is_full(self, rule: &RuleRecord) -> bool
         ensures { result ≡ full self (rule_seen rule.now) };
@@ -23,13 +35,13 @@ impl PartSort for HeadSort {
 
     ghost full = { full };
 
-    fn is_late(self, place: u8) -> bool {
+    fn is_late(self, last: LastPart) -> bool {
         match self {
-            HeadSort::Keep => place > 1,
-            HeadSort::Drop => place > 2,
-            HeadSort::KeepAll | HeadSort::DropAll => place > 3,
-            HeadSort::Only => place != 3,
-            HeadSort::When => place > 4,
+            HeadSort::Keep => last > LastPart::Keep,
+            HeadSort::Drop => last > LastPart::Drop,
+            HeadSort::KeepAll | HeadSort::DropAll => last > LastPart::AllHead,
+            HeadSort::Only => last != LastPart::AllHead,
+            HeadSort::When => last > LastPart::When,
         }
     }
 
@@ -48,10 +60,10 @@ impl PartSort for BodySort {
 
     ghost full = { full_body };
 
-    fn is_late(self, place: u8) -> bool {
+    fn is_late(self, last: LastPart) -> bool {
         match self {
-            BodySort::Give => place > 5,
-            BodySort::GiveAll => place > 6,
+            BodySort::Give => last > LastPart::Give,
+            BodySort::GiveAll => last > LastPart::GiveAll,
         }
     }
 
@@ -63,23 +75,23 @@ impl PartSort for BodySort {
     }
 }
 
-fn place_of_last(rule: &RuleRecord) -> u8
-    ensures { result ≡ stage (rule_seen rule.now) }
+fn last_of(rule: &RuleRecord) -> LastPart
+    ensures { last_number result ≡ stage (rule_seen rule.now) }
 {
     if rule.givealls.len() > 0 {
-        6
+        LastPart::GiveAll
     } else if rule.gives.len() > 0 {
-        5
+        LastPart::Give
     } else if rule.whens.len() > 0 {
-        4
+        LastPart::When
     } else if rule.alls.len() > 0 {
-        3
+        LastPart::AllHead
     } else if rule.singles.len() > rule.keep_count {
-        2
+        LastPart::Drop
     } else if rule.keep_count > 0 {
-        1
+        LastPart::Keep
     } else {
-        0
+        LastPart::Nothing
     }
 }
 
@@ -93,21 +105,15 @@ fn last_only_count(rule: &RuleRecord) -> usize
     }
 }
 
-fn judge_order(late: bool, full: bool) -> Result<(), RuleFault>
-    ensures { result ≡ in_order late full }
-{
-    if late {
-        return Err(RuleFault::OutOfOrder);
-    }
-    if full {
-        return Err(RuleFault::TooMany);
-    }
-    Ok(())
-}
-
 // Whether a part of this sort may come next.
 pub(crate) fn may_add<P: PartSort>(rule: &RuleRecord, sort: P) -> Result<(), RuleFault>
     ensures { result ≡ in_order (P.PartSort.late sort (stage (rule_seen rule.now))) (P.PartSort.full sort (rule_seen rule.now)) }
 {
-    judge_order(sort.is_late(place_of_last(rule)), sort.is_full(rule))
+    if sort.is_late(last_of(rule)) {
+        Err(RuleFault::OutOfOrder)
+    } else if sort.is_full(rule) {
+        Err(RuleFault::TooMany)
+    } else {
+        Ok(())
+    }
 }

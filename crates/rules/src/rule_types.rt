@@ -89,6 +89,7 @@ pub struct GiveAll {
 }
 
 /// The record of a rule. Of its single heads the first are `keep` heads, and those behind them `drop` heads.
+// Not a list for each: heads are numbered through both, and a rule has room for four in all.
 #[derive(Clone, Copy)]
 pub struct RuleRecord {
     pub singles: FixedList<Pattern, SINGLES>,

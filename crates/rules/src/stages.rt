@@ -4,7 +4,7 @@ ghost use Rattle.rules.specs.Writing.{no_parts, may_add, may_add_body, single_ve
 ghost use Rattle.rules.specs.Tables.{finished, draft, may_begin, may_end, Added};
 ghost use Rattle.rules.specs.Closed.{accepted, parts_verdict, stand};
 
-use crate::judging::{judge_all, judge_over, judge_single, judge_term};
+use crate::judging::{Scope, judge_all, judge_over, judge_single};
 use crate::ordering::may_add;
 use crate::rule_types::{Argument, BodyPart, BodySort, HeadPart, HeadSort, RULES, RuleFault, Term};
 use crate::set_types::{OpenSet, RuleBody, RuleHead};
@@ -72,7 +72,12 @@ impl<W: Words> RuleHead<W> {
     pub fn judge_term(&self, in_only: bool, term: Term) -> Result<(), RuleFault>
         ensures { result ≡ term_verdict W.Words.system.valid (draft self.now.table) in_only term }
     {
-        judge_term::<W>(self.table.draft(), in_only, term)
+        let rule = self.table.draft();
+        let scope = Scope {
+            rule,
+            taken: in_only,
+        };
+        scope.judge_term::<W>(term)
     }
 
     /// A head or a comparison more: 9, 4, then its fields from left to right. A refused part changes nothing.
@@ -92,7 +97,7 @@ impl<W: Words> RuleHead<W> {
     }
 }
 
-// `may_add`, `judge_term` and `add` stand in both stages: they are two types, each with the functions of the parts that may come next.
+// `may_add`, `judge_term` and `add` stand in both stages: they are two types, so that a part that may not come next does not compile.
 impl<W: Words> RuleBody<W> {
     /// Whether a part of this sort may come next: 9, then 4.
     pub fn may_add(&self, sort: BodySort) -> Result<(), RuleFault>
@@ -112,7 +117,12 @@ impl<W: Words> RuleBody<W> {
     pub fn judge_term(&self, in_giveall: bool, term: Term) -> Result<(), RuleFault>
         ensures { result ≡ term_verdict W.Words.system.valid (draft self.now.table) in_giveall term }
     {
-        judge_term::<W>(self.table.draft(), in_giveall, term)
+        let rule = self.table.draft();
+        let scope = Scope {
+            rule,
+            taken: in_giveall,
+        };
+        scope.judge_term::<W>(term)
     }
 
     /// A fact more that the rule gives: 9, 4, then its fields from left to right. A refused part changes nothing.

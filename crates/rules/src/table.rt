@@ -7,13 +7,13 @@ ghost use Rattle.rules.specs.Closed.{IsRuleAt, head_count, head_from, place_seen
 
 use crate::closed_type::KIND_COUNT;
 use crate::rule_types::{
-    AllRecord, Argument, GiveAll, HeadPlace, Operand, Pattern, RuleFault, RuleRecord, Template,
-    Term,
+    Argument, GiveAll, HeadPlace, Operand, Pattern, RuleFault, RuleRecord, Template, Term,
 };
 use crate::table_type::Table;
-use crate::writing::{BLANK, Part};
-use facts::{KINDS, WORDS, Words};
+use crate::writing::{BLANK, Part, all_head};
+use facts::{WORDS, Words};
 use lists::FixedList;
+use std::array;
 
 // What stands in the unused places of a record.
 const NO_PATTERN: Pattern = Pattern {
@@ -34,15 +34,10 @@ const NO_GIVEALL: GiveAll = GiveAll {
 fn blank_rule() -> RuleRecord
     ensures { rule_seen result ≡ no_parts }
 {
-    let no_all = AllRecord {
-        drops: false,
-        pattern: NO_PATTERN,
-        only: FixedList::new(BLANK),
-    };
     RuleRecord {
         singles: FixedList::new(NO_PATTERN),
         keep_count: 0,
-        alls: FixedList::new(no_all),
+        alls: FixedList::new(all_head(false, NO_PATTERN)),
         whens: FixedList::new(BLANK),
         gives: FixedList::new(NO_TEMPLATE),
         givealls: FixedList::new(NO_GIVEALL),
@@ -57,15 +52,11 @@ pub(crate) fn new_table() -> Table
     }
 }
 
-fn rule_names(rule: &RuleRecord, kind: u8) -> bool
+fn rule_names(rule: &RuleRecord, kind: usize) -> bool
     ensures { result ≡ names kind (rule_seen rule.now) }
 {
-    for all in rule.alls.as_slice() {
-        if all.pattern.kind == kind {
-            return true;
-        }
-    }
-    false
+    let alls = rule.alls.as_slice();
+    alls.iter().any(|all| usize::from(all.pattern.kind) == kind)
 }
 
 // A part is written into the record at an index.
@@ -88,7 +79,8 @@ impl Table {
         self.rules.as_slice()
     }
 
-    // The record of the rule being written.
+    // The record of the rule being written. By a rule of the project it is lent out of the table of records to be changed. It stands
+    // behind the last rule, so these functions ask for room there, and read the list by its fields: it is no item of the list yet.
     pub(crate) fn draft(&self) -> &RuleRecord
         requires { self.now.rules.count < 32 }
         ensures { rule_seen result.now ≡ draft self.now }
@@ -128,11 +120,8 @@ impl Table {
     pub(crate) fn head_count(&self) -> usize
         ensures { result ≡ head_count (finished self.now) }
     {
-        let mut heads = 0;
-        for rule in self.rules.as_slice() {
-            heads += rule.singles.len();
-        }
-        heads
+        let rules = self.rules.as_slice();
+        rules.iter().map(|rule| rule.singles.len()).sum()
     }
 
     // Where the head of this number stands, counted from 0 through the rules of the set.
@@ -140,6 +129,7 @@ impl Table {
         ensures place { place_seen (finished self.now) result ≡ head_from 1 (finished self.now) number }
         ensures few { OnSome result (number < 128) }
     {
+        // A loop, and `as`: what is left of the number goes from rule to rule, and an index is below 32 or 4, so `try_from` could not fail.
         let mut left = number;
         for (i, rule) in self.rules.as_slice().iter().enumerate() {
             let heads = rule.singles.len();
@@ -155,26 +145,17 @@ impl Table {
     }
 
     // Whether some all head of the set names the kind.
-    fn names_kind(&self, kind: u8) -> bool
+    fn names_kind(&self, kind: usize) -> bool
         ensures { result ≡ any (names kind) (finished self.now) }
     {
-        for rule in self.rules.as_slice() {
-            if rule_names(rule, kind) {
-                return true;
-            }
-        }
-        false
+        let rules = self.rules.as_slice();
+        rules.iter().any(|rule| rule_names(rule, kind))
     }
 
     // Of each kind, whether some all head of the set names it.
     pub(crate) fn watched(&self) -> [bool; KIND_COUNT]
         ensures { result ≡ watched_kinds (finished self.now) }
     {
-        // With `array::from_fn` it did not close: what the closure answers was not tied to this table at each of its calls.
-        let mut watched = [false; KIND_COUNT];
-        for kind in 0..KINDS {
-            watched[usize::from(kind)] = self.names_kind(kind);
-        }
-        watched
+        array::from_fn(|kind| self.names_kind(kind))
     }
 }

@@ -30,6 +30,19 @@ enum Failed {
     Output(io::Error),
 }
 
+/// Where the two files are.
+#[derive(Clone, Copy)]
+struct Paths<'a> {
+    rules: &'a str,
+    facts: &'a str,
+}
+
+// The two files of a call without arguments.
+const HERE: Paths<'static> = Paths {
+    rules: "rules.csv",
+    facts: "facts.csv",
+};
+
 impl From<io::Error> for Failed {
     ghost from_gives = { λ e f. f ≡ Output e };
 
@@ -70,20 +83,20 @@ fn read_facts<R: Files + Print + Eprint>(
 // The rules, and how many facts are in the table. The rules file is read to its end before the facts file is opened.
 fn read_job<R: Files + Print + Eprint>(
     rt: &R,
-    rules: &str,
-    facts: &str,
+    paths: Paths<'_>,
     table: &mut [Fact; MOST_FACTS],
 ) -> Result<(ClosedSet<Lengths>, usize), Failed> {
-    let set = read(rt, Source::Rules, rules, |file| check_rules(file))?;
-    let count = read_facts(rt, facts, table)?;
+    let set = read(rt, Source::Rules, paths.rules, |file| check_rules(file))?;
+    let count = read_facts(rt, paths.facts, table)?;
     Ok((set, count))
 }
 
-fn check<R: Files + Print + Eprint>(rt: &R, rules: &str, facts: &str) -> Result<(), Failed> {
+fn check<R: Files + Print + Eprint>(rt: &R, paths: Paths<'_>) -> Result<(), Failed> {
     let mut table = NO_FACTS;
-    let (set, fact_count) = read_job(rt, rules, facts, &mut table)?;
+    let (set, fact_count) = read_job(rt, paths, &mut table)?;
     let rule_count = set.rule_count();
     let heads = set.head_count();
+    let Paths { rules, facts } = paths;
     eprintln!(rt; "{rules}: {rule_count} rules with {heads} heads; {facts}: {fact_count} facts")?;
     Ok(())
 }
@@ -96,12 +109,12 @@ fn check_survey<R: Files + Print + Eprint>(rt: &R, facts: &str) -> Result<(), Fa
 }
 
 // The job is printed, and a sentence says why it did not end quiet.
-fn plan<R: Files + Print + Eprint>(rt: &R, rules: &str, facts: &str) -> Result<(), Failed> {
+fn plan<R: Files + Print + Eprint>(rt: &R, paths: Paths<'_>) -> Result<(), Failed> {
     let mut table = NO_FACTS;
-    let (set, count) = read_job(rt, rules, facts, &mut table)?;
+    let (set, count) = read_job(rt, paths, &mut table)?;
     let mut rows = [None; CAPACITY];
     let store = Rows::new(&mut rows);
-    match print_job(rt, set, store, &table[0..count.min(MOST_FACTS)])? {
+    match print_job(rt, set, store, &table[..count.min(MOST_FACTS)])? {
         Some((End::Quiet, _)) => Ok(()),
         Some((end, steps)) => {
             explain_end(rt, end, steps)?;
@@ -113,6 +126,7 @@ fn plan<R: Files + Print + Eprint>(rt: &R, rules: &str, facts: &str) -> Result<(
 
 // Does what the arguments say; arguments of another form print how the program is called.
 fn run<R: Env + Files + Print + Eprint>(rt: &R) -> Result<(), Failed> {
+    // Three buffers and no array of them: taken apart under `&mut`, it is not covered by the borrow checker.
     let mut first = [0; PATH];
     let mut second = [0; PATH];
     let mut third = [0; PATH];
@@ -120,10 +134,10 @@ fn run<R: Env + Files + Print + Eprint>(rt: &R) -> Result<(), Failed> {
     let two = argument(rt, 2, &mut second);
     let three = argument(rt, 3, &mut third);
     match (argument_count(rt, 4), one, two, three) {
-        (0, ..) => plan(rt, "rules.csv", "facts.csv"),
+        (0, ..) => plan(rt, HERE),
         (2, Some("--check"), Some(facts), _) => check_survey(rt, facts),
-        (3, Some("--check"), Some(rules), Some(facts)) => check(rt, rules, facts),
-        (2, Some(rules), Some(facts), _) => plan(rt, rules, facts),
+        (3, Some("--check"), Some(rules), Some(facts)) => check(rt, Paths { rules, facts }),
+        (2, Some(rules), Some(facts), _) => plan(rt, Paths { rules, facts }),
         _ => {
             eprintln!(rt;
                 "usage: runplan RULES FACTS, runplan --check RULES FACTS or runplan --check FACTS"

@@ -1,4 +1,6 @@
 //! One trial for every store: a long fixed sequence of acts, each answer compared with that of a plain map.
+// By hand: each `as` in this file casts a number that fits, or widens a u32 to usize, for which the library has no `From`; `try_from` would answer
+// an error that cannot come.
 use facts::Fact;
 use std::process::Abort;
 use stores::{Store, StoreFault};
@@ -140,6 +142,7 @@ impl<S: Store> Trial<'_, S> {
         }
     }
 
+    // By numbers, here and below: an act changes the map, so no iterator can go over it meanwhile.
     fn put_everywhere(&mut self, rt: &impl Abort) {
         for place in 0..self.map.len() {
             let seed = (place % PLACES) as u32;

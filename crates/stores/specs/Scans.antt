@@ -1,42 +1,34 @@
--- What the inner functions of a store of rows answer. No contract of a public function cites this.
-use Rattle.std.specs.Prelude.{◌≡◌, ℕ, ◌<◌, true, false, cond, ◌&&◌, ◌||◌, List, length, Some, None, Ok, Option, nat_lt, slice_index_or, slice_set}
+-- What the inner functions of the stores over rows answer. No contract of a public function cites this.
+use Rattle.std.specs.Prelude.{ℕ, ◌+◌, ◌-◌, ◌++◌, take, drop, Bool, suc, [], ◌∷◌, ◌==◌, false, cond, List, Some, None, Option, nat_lt}
 use Rattle.facts.specs.declared.fact_types.Fact.{Fact}
-use Rattle.stores.specs.Lists.{has}
-use Rattle.stores.specs.Store.{labels, read}
-use Rattle.stores.specs.Piles.{sound_pair, sound, after_put, after_take}
-use Rattle.stores.specs.Table.{Row, pairs_of, pile_of, distinct}
+use Rattle.stores.specs.Store.{Pair, label}
+use Rattle.stores.specs.Table.{Row}
 
--- the fact of a row
-abbrev pub fact_in : Row → Option Fact
-fact_in None = None
-fact_in (Some (l, f)) = Some f
+-- how many pairs have a label below a bound, where labels rise: those before the first whose label is not
+abbrev pub rank : ℕ → List Pair → ℕ
+rank bound [] = 0
+rank bound (p ∷ ps) = cond (nat_lt (label p) bound) (suc (rank bound ps)) 0
 
--- a row for a label: it holds what the table has under the label, which is nothing where the row is free; a pair written into
--- it is put into the table; and freeing it takes the label out
-pub record RowAt (l : ℕ) (t : List Row) (i : ℕ) : Type 0 where
-  pub within : i < length t
-  pub reads : fact_in (slice_index_or t i None) ≡ read l (pairs_of t)
-  pub room : (has l (labels (pairs_of t)) || nat_lt (length (pairs_of t)) (length t)) ≡ true
-  pub puts : (f : Fact) → pile_of (slice_set t i (Some (l, f))) ≡ after_put l f (pile_of t) (Ok tt)
-  pub puts_apart : (f : Fact) → distinct (slice_set t i (Some (l, f))) ≡ true
-  pub puts_sound : (f : Fact) → sound_pair (l, f) ≡ true → sound (pile_of (slice_set t i (Some (l, f)))) ≡ true
-  pub takes : pile_of (slice_set t i None) ≡ after_take l (pile_of t)
-  pub takes_apart : distinct (slice_set t i None) ≡ true
-  pub takes_sound : sound (pile_of (slice_set t i None)) ≡ true
+-- the fact of a row with this label
+abbrev pub fact_under : ℕ → Row → Option Fact
+fact_under l None = None
+fact_under l (Some (m, f)) = cond (m == l) (Some f) None
 
--- no row for a label: it is not in the table, and every row is used
-pub record NoRow (l : ℕ) (t : List Row) : Type 0 where
-  pub reads : read l (pairs_of t) ≡ None
-  pub missing : has l (labels (pairs_of t)) ≡ false
-  pub full : length (pairs_of t) ≡ length t
-  pub takes : after_take l (pile_of t) ≡ pile_of t
+-- whether a row has a fact that passes a test
+abbrev pub row_passes : (Fact → Bool) → Row → Bool
+row_passes t None = false
+row_passes t (Some (l, f)) = t f
 
--- the number of a row for a label, or none where there is no such row
-abbrev pub RowFor : ℕ → List Row → Option ℕ → Type 0
-RowFor l t None = NoRow l t
-RowFor l t (Some i) = RowAt l t i
+-- the label of the first row with a fact that passes a test
+abbrev pub first_label : (Fact → Bool) → List Row → Option ℕ
+first_label t [] = None
+first_label t (None ∷ rows) = first_label t rows
+first_label t (Some (l, f) ∷ rows) = cond (t f) (Some l) (first_label t rows)
 
--- the lesser of a label found so far and another, where that is above a third
-abbrev pub lesser_above : ℕ → Option ℕ → ℕ → Option ℕ
-lesser_above a None n = cond (nat_lt a n) (Some n) None
-lesser_above a (Some m) n = cond (nat_lt a n && nat_lt n m) (Some n) (Some m)
+-- rows with another before the one of a number; those of the first n from there on move up by one, and the row behind them goes
+abbrev pub with_row : ℕ → Row → ℕ → List Row → List Row
+with_row i r n rows = take i rows ++ (r ∷ (take (n - i) (drop i rows) ++ drop (n + 1) rows))
+
+-- rows without the one of a number; those of the first n behind it move down by one, and a free one follows them
+abbrev pub without_row : ℕ → ℕ → List Row → List Row
+without_row i n rows = take i rows ++ (take (n - 1 - i) (drop (i + 1) rows) ++ (None ∷ drop n rows))

@@ -71,6 +71,12 @@ abbrev pub placed_all : List Pair → List Pair → List Pair
 placed_all [] ps = ps
 placed_all (q ∷ qs) ps = placed_all qs (placed (label q) (fact q) ps)
 
+-- whether a pair can be put, whatever a store holds: a kind out of range is refused, then a label out of range
+abbrev pub pair_answer : ℕ → Fact → Result (Unit {0}) StoreFault
+pair_answer l f =
+    cond (nat_lt last_kind f.kind) (Err Kind)
+    (cond (l == 0 || nat_lt last_label l) (Err Label) (Ok tt))
+
 -- `put` on a store of a capacity: a kind out of range is refused, then a label out of range,
 -- and a label that is not held exactly when the store is full
 abbrev pub put_answer : ℕ → ℕ → Fact → List Pair → Result (Unit {0}) StoreFault

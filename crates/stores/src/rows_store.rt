@@ -1,11 +1,13 @@
 //! The functions of a store of rows.
-ghost use Rattle.std.specs.Prelude.{◌≡◌};
-ghost use Rattle.stores.specs.Store.{of_kind_with};
-ghost use Rattle.stores.specs.Table.{pile_of};
-ghost use Rattle.stores.specs.Scans.{lesser_above, RowFor};
+ghost use Rattle.std.specs.Prelude.{◌≡◌, ◌≤◌, ◌<◌, ◌+◌, ◌-◌, Bool, Some, None, map, length, drop, slice_index_or};
+ghost use Rattle.std.specs.Fn.{ComputesKey};
+ghost use Rattle.stores.specs.Store.{of_kind_with, pair_answer};
+ghost use Rattle.stores.specs.Table.{pairs_of, pile_of};
+ghost use Rattle.stores.specs.Scans.{rank, row_passes, first_label, fact_under, with_row, without_row};
 
 use crate::fault_types::StoreFault;
-use crate::rows_type::Rows;
+use crate::row_types::Row;
+use crate::rows_type::{PackedRows, Rows};
 use crate::store_trait::Store;
 use facts::{Fact, KINDS};
 
@@ -19,100 +21,143 @@ pub fn is_asked_for(fact: &Fact, kind: u8, word: i64) -> bool
     fact.words[0] == word && fact.kind == kind
 }
 
-/// The lesser of the label found so far and another, if that is above a third.
-fn lesser(above: u32, best: Option<u32>, label: u32) -> Option<u32>
-    ensures { result ≡ lesser_above above best label }
+/// Whether a pair can be put, by its kind and its label, whatever a store holds.
+pub fn check_pair(label: u32, fact: &Fact) -> Result<(), StoreFault>
+    ensures { result ≡ pair_answer label fact.now }
 {
-    if label <= above {
-        return best;
+    if fact.kind >= KINDS {
+        return Err(StoreFault::Kind);
     }
-    Some(best.map_or(label, |least| least.min(label)))
+    if label == 0 || label > LABELS {
+        return Err(StoreFault::Label);
+    }
+    Ok(())
+}
+
+/// The label of the first row with a fact that passes a test.
+fn first_that<T: Fn(&Fact) -> bool>(rows: &[Row], test: T) -> Option<u32>
+    requires { T.IsAlwaysCallable test }
+    ensures { (p : Fact → Bool) → ComputesKey T.FnMut p test → result ≡ first_label p rows.now }
+{
+    let row = rows.iter().find(
+        |row| -> bool
+            requires { T.IsAlwaysCallable test }
+            ensures { (p : Fact → Bool) → ComputesKey T.FnMut p test → result ≡ row_passes p row.now.now }
+        {
+            // By hand: with `is_some_and` a closure would stand in this one, and need a contract of its own, as long as this one's.
+            match row {
+                Some((_, fact)) => test(fact),
+                None => false,
+            }
+        },
+    )?;
+    let (label, _) = (*row)?;
+    Some(label)
+}
+
+// No methods of `Rows`: while a row is put in or taken out, its ghost fields do not hold.
+impl PackedRows<'_> {
+    /// One pair more, in the row of this number. The pairs from there on move up by a row.
+    fn insert(&mut self, i: usize, label: u32, fact: Fact)
+        requires { (i ≤ self.old.count) × (self.old.count < length self.old.table.now) }
+        ensures rows { self.new.table.now ≡ with_row i (Some (label, fact)) self.old.count self.old.table.now }
+        ensures count { self.new.count ≡ self.old.count + 1 }
+    {
+        self.table[i..=self.count].rotate_right(1);
+        self.table[i] = Some((label, fact));
+        self.count += 1;
+    }
+
+    /// The pair of a row goes, and those behind it move down by a row.
+    fn remove(&mut self, i: usize)
+        requires { (i < self.old.count) × (self.old.count ≤ length self.old.table.now) }
+        ensures rows { self.new.table.now ≡ without_row i self.old.count self.old.table.now }
+        ensures count { self.new.count ≡ self.old.count - 1 }
+    {
+        self.table[i..self.count].rotate_left(1);
+        self.count -= 1;
+        self.table[self.count] = None;
+    }
 }
 
 impl Rows<'_> {
-    /// The row that has the label, else a free one, or none.
-    // Not inlined: as one loop it costs less than where each caller has its own.
-    #[inline(never)]
-    fn row_for(&self, label: u32) -> Option<usize>
-        ensures { RowFor label self.now.table.now result }
+    /// The rows that have a pair.
+    fn used(&self) -> &[Row]
+        ensures { result.now ≡ map Some (pairs_of self.now.packed.table.now) }
     {
-        let mut free = None;
-        for (i, row) in self.table.iter().enumerate() {
-            match row {
-                None => free = Some(i),
-                Some((held, _)) if *held == label => return Some(i),
-                Some(_) => {}
-            }
-        }
-        free
+        let PackedRows { table, count } = &self.packed;
+        let rows = &table[..];
+        &rows[..*count]
+    }
+
+    /// How many pairs have a label below the bound. They stand first.
+    fn rank(&self, bound: u64) -> usize
+        ensures rank { result ≡ rank bound (pairs_of self.now.packed.table.now) }
+        ensures within { result ≤ length (pairs_of self.now.packed.table.now) }
+    {
+        let used = self.used();
+        used.partition_point(|row| row.is_some_and(|(label, _)| u64::from(label) < bound))
+    }
+
+    /// The rows of the pairs with a label above this one.
+    fn behind(&self, above: u32) -> &[Row]
+        ensures { result.now ≡ map Some (drop (rank (above + 1) (pairs_of self.now.packed.table.now)) (pairs_of self.now.packed.table.now)) }
+    {
+        let start = self.rank(u64::from(above) + 1);
+        &self.used()[start..]
+    }
+
+    /// The fact in the row of this number, if the row has the label.
+    fn fact_at(&self, i: usize, label: u32) -> Option<Fact>
+        ensures { result ≡ fact_under label (slice_index_or self.now.packed.table.now i None) }
+    {
+        let (held, fact) = (*self.packed.table.get(i)?)?;
+        (held == label).then_some(fact)
     }
 }
 
 impl Store for Rows<'_> {
-    ghost meaning = { λ s. pile_of s.table.now };
+    ghost meaning = { λ s. pile_of s.packed.table.now };
 
     ghost owed = { λ s. s.kept };
 
     fn capacity(&self) -> usize {
-        self.table.len()
+        self.packed.table.len()
     }
 
     fn count(&self) -> usize {
-        self.table.iter().filter(|row| row.is_some()).count()
+        self.packed.count
     }
 
     fn read(&self, label: u32) -> Option<Fact> {
-        let i = self.row_for(label)?;
-        let (_, fact) = self.table[i]?;
-        Some(fact)
+        self.fact_at(self.rank(u64::from(label)), label)
     }
 
-    // Not a chain that ends in `min`: its proof did not close at `returns`, that the least label that passes is `next_of` of the pairs.
     fn next(&self, kind: u8, above: u32) -> Option<u32> {
-        let mut best = None;
-        for row in self.table.iter() {
-            if let Some((label, fact)) = row
-                && fact.kind == kind
-            {
-                best = lesser(above, best, *label);
-            }
-        }
-        best
+        first_that(self.behind(above), |fact| fact.kind == kind)
     }
 
-    // A loop of its own, which reads the first word before the kind: one loop over a test would say of both a relation on its answers.
     fn next_with(&self, kind: u8, word: i64, above: u32) -> Option<u32> {
-        let mut best = None;
-        for row in self.table.iter() {
-            if let Some((label, fact)) = row
-                && is_asked_for(fact, kind, word)
-            {
-                best = lesser(above, best, *label);
-            }
-        }
-        best
+        first_that(self.behind(above), |fact| is_asked_for(fact, kind, word))
     }
 
-    // Kind and label are judged here and in `Chains`: what passes a call would be known only through its answer, and opened again.
     fn put(&mut self, label: u32, fact: Fact) -> Result<(), StoreFault> {
-        if fact.kind >= KINDS {
-            return Err(StoreFault::Kind);
-        }
-        if label == 0 || label > LABELS {
-            return Err(StoreFault::Label);
-        }
-        let Some(i) = self.row_for(label) else {
+        check_pair(label, &fact)?;
+        let i = self.rank(u64::from(label));
+        if self.fact_at(i, label).is_some() {
+            self.packed.table[i] = Some((label, fact));
+        } else if self.count() < self.capacity() {
+            self.packed.insert(i, label, fact);
+        } else {
             return Err(StoreFault::Full);
-        };
-        self.table[i] = Some((label, fact));
+        }
         Ok(())
     }
 
     fn take(&mut self, label: u32) -> Option<Fact> {
-        let i = self.row_for(label)?;
-        let row = self.table[i];
-        self.table[i] = None;
-        let (_, fact) = row?;
+        let i = self.rank(u64::from(label));
+        let fact = self.fact_at(i, label)?;
+        self.packed.remove(i);
         Some(fact)
     }
 }
@@ -121,7 +166,6 @@ impl Store for Rows<'_> {
 mod tests {
     use super::*;
     use crate::fault_types::TableFault;
-    use crate::row_types::Row;
     use crate::stored_map::{put_and_read, take_and_read, visit};
 
     #[test]

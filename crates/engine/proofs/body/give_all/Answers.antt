@@ -18,9 +18,9 @@ returns-in_err-give_over g c =
     let σ = setting_in c.args.letters.now in
     let i = c.loop-giveall.giveall-index in
     let one = get_or c.args.givealls.now i no_giveall in
-    let give = given_over g.W.Words.system σ ps c.args.taken.now.first c.args.taken.now.second in
+    let give = given_over g.W.Words.system σ ps c.args.taken.now in
     let given_for : List ℕ → List (Option Fact) = λ ls. map (λ (f : Fact). given g.W.Words.system σ f.words one.each) (facts (pairs_at ps ls)) in
-    let h = gives_along given_for c.labels_over-labels.result.now (labels_over one.over c.args.taken.now.first c.args.taken.now.second) c.loop-giveall.body c.give_over.new.body c.give_over.result None c.labels_over-labels.ensures c.in_err-give_over.was c.give_over.ensures in
+    let h = gives_along given_for c.labels_over-labels.result.now (labels_over one.over c.args.taken.now) c.loop-giveall.body c.give_over.new.body c.give_over.result None c.labels_over-labels.ensures.labels c.in_err-give_over.was c.give_over.ensures in
     rw c.from_residual.ensures (all_stop give c.args.givealls.now i no_giveall c.args.body.now c.loop-giveall.body c.give_over.new.body (flat_map give c.args.givealls.now) c.loop-giveall.invariant.1 c.loop-giveall-test.true h)
 
 pub loop-giveall-preserved : goal.loop-giveall-preserved
@@ -29,9 +29,9 @@ loop-giveall-preserved g c =
     let σ = setting_in c.args.letters.now in
     let i = c.loop-giveall.giveall-index in
     let one = get_or c.args.givealls.now i no_giveall in
-    let give = given_over g.W.Words.system σ ps c.args.taken.now.first c.args.taken.now.second in
+    let give = given_over g.W.Words.system σ ps c.args.taken.now in
     let given_for : List ℕ → List (Option Fact) = λ ls. map (λ (f : Fact). given g.W.Words.system σ f.words one.each) (facts (pairs_at ps ls)) in
-    let h = gives_along given_for c.labels_over-labels.result.now (labels_over one.over c.args.taken.now.first c.args.taken.now.second) c.loop-giveall.body c.give_over.new.body c.give_over.result (Some tt) c.labels_over-labels.ensures c.in_ok-give_over.was c.give_over.ensures in
+    let h = gives_along given_for c.labels_over-labels.result.now (labels_over one.over c.args.taken.now) c.loop-giveall.body c.give_over.new.body c.give_over.result (Some tt) c.labels_over-labels.ensures.labels c.in_ok-give_over.was c.give_over.ensures in
     let n = gives-count c.loop-giveall.body c.give_over.new.body (give one) h in
-    let m = length-given_over g.W.Words.system σ ps c.args.taken.now.first c.args.taken.now.second one in
+    let m = length-given_over g.W.Words.system σ ps c.args.taken.now one in
     (omega (arith, n, m, c.loop-giveall.invariant.0), all-more give c.args.givealls.now i no_giveall c.args.body.now c.loop-giveall.body c.give_over.new.body (flat_map give c.args.givealls.now) c.loop-giveall.invariant.1 c.loop-giveall-test.true h)

@@ -1,4 +1,4 @@
-use Rattle.std.proofs.Common.{◌≡◌, false, rules}
+use Rattle.std.proofs.Common.{rules}
 use Rattle.facts.specs.System.{Lawful}
 use Rattle.facts.proofs.words_trait.laws_hold.Given as given
 use Rattle.facts.proofs.words_trait.laws_hold.Goals as goal
@@ -8,9 +8,3 @@ lawful g = record { closed = g.met.W.Words.closed; valueless = g.met.W.Words.val
 
 pub returns-then-both_valid : goal.returns-then-both_valid
 returns-then-both_valid g c = record { tried = let h = g.met.W.Words.closed c.args.operator c.args.left c.args.right c.in-Some.value in search rules; lawful = lawful g }
-
-pub returns-else-both_valid : goal.returns-else-both_valid
-returns-else-both_valid g c = record { tried = let h = g.met.W.Words.valueless c.args.operator c.args.left c.args.right in search rules; lawful = lawful g }
-
-pub returns-else-both_valid-2 : goal.returns-else-both_valid-2
-returns-else-both_valid-2 g c = record { tried = let h = g.met.W.Words.unrelated c.args.relation c.args.left c.args.right in search rules; lawful = lawful g }

@@ -6,12 +6,6 @@ use Rattle.facts_file.proofs.FactLoads.{short_loaded, refused_loaded}
 use Rattle.rows.proofs.Outcomes.{bytes-there}
 use Rattle.facts_file.proofs.fact_rows.load_facts.Goals as goal
 
-pub returns-in_err-bytes : goal.returns-in_err-bytes
-returns-in_err-bytes g c =
-    let p = err_from_is_err_and c.from_residual.result c.from_residual.ensures.1 in
-    let r = refused_loaded g.W.Words.system.valid (option_map (λ x. x.now) c.args.file) c.args.table.now c.in_err-bytes.field-0.0 c.in_err-bytes.ensures in
-    rw (p.1, p.2) (record { answer = r.0; table = r.1; bound = tt; named = r.2; loaded = r.3 })
-
 pub returns-in_err-load_rows : goal.returns-in_err-load_rows
 returns-in_err-load_rows g c =
     let p = err_from_is_err_and c.from_residual-in_err-load_rows.result c.from_residual-in_err-load_rows.ensures.1 in

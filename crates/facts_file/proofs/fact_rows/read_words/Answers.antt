@@ -6,9 +6,6 @@ use Rattle.facts_file.proofs.FactRows.{words-none, words-broken, words-refused, 
 use Rattle.rows.proofs.Outcomes.{or_err}
 use Rattle.facts_file.proofs.fact_rows.read_words.Goals as goal
 
-pub loop-i-init : goal.loop-i-init
-loop-i-init g c = (refl, words-none g.W.Words.system.valid c.args.row c.args.bytes.now)
-
 pub returns-in_err-field : goal.returns-in_err-field
 returns-in_err-field g c =
     let p = err_from_is_err_and c.from_residual.result c.from_residual.ensures.1 in

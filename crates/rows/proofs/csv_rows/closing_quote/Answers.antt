@@ -1,11 +1,8 @@
 use Rattle.std.proofs.Common.{◌+◌, get_or, sym, arith}
 use Rattle.std.proofs.lemmas.Bool.{eqb-true}
-use Rattle.rows.specs.Csv.{quote, read_escaped}
-use Rattle.rows.proofs.Scans.{passed_none, escaped-more, escaped_bad, escaped_open, escaped-doubled, escaped-closed, quote-within}
+use Rattle.rows.specs.Csv.{quote}
+use Rattle.rows.proofs.Scans.{escaped-more, escaped_bad, escaped-doubled, escaped-closed, quote-within}
 use Rattle.rows.proofs.csv_rows.closing_quote.Goals as goal
-
-pub loop-at-init : goal.loop-at-init
-loop-at-init c = (omega arith, passed_none read_escaped c.args.bytes.now)
 
 pub returns-then-not-is_loose : goal.returns-then-not-is_loose
 returns-then-not-is_loose c =
@@ -30,6 +27,3 @@ returns-else-quote_at c =
     let bs = c.args.bytes.now in
     let first = eqb-true (get_or bs c.loop-at.at 0) quote (sym c.if-not-quote_at.ensures) in
     (c.loop-at-test.true, escaped-closed bs c.loop-at.at c.loop-at-test.true first (sym c.if-quote_at.ensures) c.loop-at.invariant.1)
-
-pub returns : goal.returns
-returns c = escaped_open c.args.bytes.now c.loop-at.at c.loop-at-test.false c.loop-at.invariant.1

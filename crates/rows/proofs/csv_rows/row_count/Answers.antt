@@ -6,11 +6,6 @@ use Rattle.rows.proofs.Rows.{row_shorter, rows_more, rows_fault, rows_all, file_
 use Rattle.rows.proofs.Outcomes.{same_err}
 use Rattle.rows.proofs.csv_rows.row_count.Goals as goal
 
-pub loop-rest-smaller : goal.loop-rest-smaller
-loop-rest-smaller c =
-    let some : 1 ≤ length c.loop-rest.rest.now = let e = c.loop-rest-test.ensures in grind (arith, nat_tests) in
-    row_shorter c.loop-rest.rest.now c.in_ok-more.field-0-0 c.in_ok-more.more.now some (rw c.in_ok-more.ensures.ok_part at c.read_row.ensures.reads)
-
 pub loop-rest-preserved : goal.loop-rest-preserved
 loop-rest-preserved c =
     let some : 1 ≤ length c.loop-rest.rest.now = let e = c.loop-rest-test.ensures in grind (arith, nat_tests) in

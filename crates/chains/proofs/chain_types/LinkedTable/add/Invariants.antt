@@ -3,4 +3,4 @@ use Rattle.chains.proofs.Changes.{Stage}
 use Rattle.chains.proofs.chain_types.LinkedTable.add.Given as goal
 
 abbrev pub invariant-loop-way : goal.invariant-loop-way
-invariant-loop-way l = Stage l.way-index l.i (Some (l.label, l.fact)) l.fn.self.table.now l.self.table.now l.fn.self.heads l.self.heads
+invariant-loop-way l = Stage l.way-index l.i (Some l.pair) l.fn.self.table.now l.self.table.now l.fn.self.heads l.self.heads

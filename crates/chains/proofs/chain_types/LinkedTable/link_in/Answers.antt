@@ -1,14 +1,25 @@
-use Rattle.std.proofs.Common.{set, subst}
-use Rattle.chains.specs.Acts.{Pointed}
-use Rattle.chains.specs.declared.chain_types.ChainRow.{ChainRow}
-use Rattle.chains.proofs.Pointing.{linked_in, leaves_in}
+use Rattle.std.proofs.Common.{subst, sym, refl, get_or}
+use Rattle.chains.proofs.Pointing.{pointed_at, points_fits, linked_in, leaves_in}
+use Rattle.chains.specs.Rows.{rows_of, links_of, heads_of, chain_at, Walkable}
+use Rattle.chains.proofs.Tables.{Relink}
+use Rattle.chains.specs.Links.{Place}
+use Rattle.chains.specs.declared.chain_types.Way.{Way}
 use Rattle.chains.proofs.chain_types.LinkedTable.link_in.Goals as goal
+
+pub place-spot-requires : goal.place-spot-requires
+place-spot-requires c = subst (λ (w : Way). Walkable w c.args.self.now.table.now c.args.self.now.heads) (sym c.chain_at-chain.ensures.way) c.requires.walkable
 
 pub returns : goal.returns
 returns c =
     let t = c.args.self.now.table.now in
-    let q = subst (λ (r : ChainRow). Pointed c.args.way c.chain_at-chain.result.number c.place-before.result.0 c.args.i (set t c.args.i r) c.point.new.self.table.now c.args.self.now.heads c.point.new.self.heads) c.with_link.ensures c.point.ensures in
+    let h = c.args.self.now.heads in
+    let number = c.chain_at-chain.result.number in
+    let spot = c.place-spot.result in
+    let place = subst (λ (w : Way). Place (chain_at w) (rows_of t) (links_of w t) (heads_of w h) number c.args.pair.now.0 spot.before spot.at) c.chain_at-chain.ensures.way c.place-spot.ensures in
+    let d = c.index-self-i.result in
+    let point = pointed_at c.chain_at-chain.result.way c.args.way number spot.before c.args.i t c.point.new.self.table.now h c.point.new.self.heads _ c.chain_at-chain.ensures.way c.point.ensures in
+    let k : Relink c.args.way spot.at (get_or t c.args.i d) _ = record { row = refl; links = rw (c.number.ensures, c.to.ensures) refl; fits = points_fits (rows_of t) spot.at _ c.requires.walkable.kept place.next } in
     record {
-      linked = linked_in c.args.way t c.point.new.self.table.now c.args.self.now.heads c.point.new.self.heads c.args.i c.args.label c.chain_at-chain.result.number c.place-before.result.0 c.place-before.result.1 c.args.fact.now c.requires.walkable c.requires.one c.chain_at-chain.ensures c.chain_at-chain.result.few c.requires.free c.requires.within c.requires.new c.place-before.ensures q;
-      leaves = leaves_in c.args.way t c.point.new.self.table.now c.args.self.now.heads c.point.new.self.heads c.args.i c.args.label c.chain_at-chain.result.number c.place-before.result.0 c.place-before.result.1 c.args.fact.now c.requires.walkable c.requires.one c.chain_at-chain.ensures c.chain_at-chain.result.few c.requires.free c.requires.within c.requires.new c.place-before.ensures q;
+      linked = linked_in c.args.way t c.point.new.self.table.now h c.point.new.self.heads c.args.i c.args.pair.now.0 number spot.before spot.at c.args.pair.now.1 c.requires.walkable c.requires.one c.chain_at-chain.ensures.number c.chain_at-chain.result.few c.requires.free c.requires.within c.requires.new place _ d k point;
+      leaves = leaves_in c.args.way t c.point.new.self.table.now h c.point.new.self.heads c.args.i c.args.pair.now.0 number spot.before spot.at c.args.pair.now.1 c.requires.walkable c.requires.one c.chain_at-chain.ensures.number c.chain_at-chain.result.few c.requires.free c.requires.within c.requires.new place _ d k point;
     }

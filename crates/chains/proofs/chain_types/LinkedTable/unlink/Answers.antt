@@ -1,26 +1,37 @@
-use Rattle.std.proofs.Common.{◌≡◌, ℕ, get_or, sym, subst, ◌∙◌, arith}
+use Rattle.std.proofs.Common.{◌-◌, ℕ, Option, sym, subst, ◌∙◌, arith}
 use Rattle.std.proofs.lemmas.Bool.Decides.{nat_tests}
-use Rattle.chains.specs.Rows.{rows_of, links_of}
+use Rattle.chains.specs.Rows.{rows_of, links_of, heads_of, chain_at, Walkable}
 use Rattle.chains.specs.Acts.{Pointed}
 use Rattle.chains.proofs.Named.{used-within, used-sound}
-use Rattle.chains.proofs.Tables.{blank, link-at, rows-length}
+use Rattle.chains.proofs.Tables.{link-at, rows-length}
 use Rattle.chains.proofs.Pointing.{linked_out, leaves_out}
+use Rattle.chains.specs.Links.{Place}
+use Rattle.chains.specs.declared.chain_types.Way.{Way}
 use Rattle.chains.proofs.chain_types.LinkedTable.unlink.Goals as goal
 
-pub overflow_sub-label : goal.overflow_sub-label
-overflow_sub-label c =
-    let s = used-sound (rows_of c.args.self.now.table.now) c.args.i c.args.label c.args.fact.now c.requires.walkable.apart c.requires.walkable.kept c.requires.row in
+pub overflow_sub-pair : goal.overflow_sub-pair
+overflow_sub-pair c =
+    let s = used-sound (rows_of c.args.self.now.table.now) c.args.i c.args.pair.now.0 c.args.pair.now.1 c.requires.walkable.apart c.requires.walkable.kept c.requires.row in
     grind (arith, nat_tests)
+
+pub place-before-requires : goal.place-before-requires
+place-before-requires c = subst (λ (w : Way). Walkable w c.args.self.now.table.now c.args.self.now.heads) (sym c.chain_at-chain.ensures.way) c.requires.walkable
 
 pub returns : goal.returns
 returns c =
     let t = c.args.self.now.table.now in
-    let s = used-sound (rows_of t) c.args.i c.args.label c.args.fact.now c.requires.walkable.apart c.requires.walkable.kept c.requires.row in
-    let w = used-within (rows_of t) c.args.i c.args.label c.args.fact.now c.requires.row in
+    let h = c.args.self.now.heads in
+    let number = c.chain_at-chain.result.number in
+    let spot = c.place-before.result in
+    let place = subst (λ (w : Way). Place (chain_at w) (rows_of t) (links_of w t) (heads_of w h) number (c.args.pair.now.0 - 1) spot.before spot.at) c.chain_at-chain.ensures.way c.place-before.ensures in
+    let s = used-sound (rows_of t) c.args.i c.args.pair.now.0 c.args.pair.now.1 c.requires.walkable.apart c.requires.walkable.kept c.requires.row in
+    let w = used-within (rows_of t) c.args.i c.args.pair.now.0 c.args.pair.now.1 c.requires.row in
     let n = rows-length t in
-    let e : c.link-after.result ≡ get_or (links_of c.args.way t) c.args.i 0 = c.link-after.ensures ∙ sym (link-at c.args.way t c.args.i blank (omega arith)) in
-    let q = subst (λ (x : ℕ). Pointed c.args.way c.chain_at-chain.result.number c.place-before.result.0 x t c.point.new.self.table.now c.args.self.now.heads c.point.new.self.heads) e c.point.ensures in
+    let d = c.index-self-i.result in
+    let e = c.next-after.ensures ∙ sym (link-at c.args.way t c.args.i d (omega arith)) in
+    let q0 = subst (λ (w : Way). Pointed w number spot.before c.next-after.result t c.point.new.self.table.now h c.point.new.self.heads) c.chain_at-chain.ensures.way c.point.ensures in
+    let q = subst (λ (x : Option ℕ). Pointed c.args.way number spot.before x t c.point.new.self.table.now h c.point.new.self.heads) e q0 in
     record {
-      linked = linked_out c.args.way t c.point.new.self.table.now c.args.self.now.heads c.point.new.self.heads c.args.i c.args.label c.chain_at-chain.result.number c.place-before.result.0 c.place-before.result.1 c.args.fact.now c.requires.walkable (grind (arith, nat_tests)) c.chain_at-chain.ensures c.chain_at-chain.result.few c.requires.row c.place-before.ensures q;
-      leaves = leaves_out c.args.way t c.point.new.self.table.now c.args.self.now.heads c.point.new.self.heads c.args.i c.args.label c.chain_at-chain.result.number c.place-before.result.0 c.place-before.result.1 c.args.fact.now c.requires.walkable (grind (arith, nat_tests)) c.chain_at-chain.ensures c.chain_at-chain.result.few c.requires.row c.place-before.ensures q;
+      linked = linked_out c.args.way t c.point.new.self.table.now h c.point.new.self.heads c.args.i c.args.pair.now.0 number spot.before spot.at c.args.pair.now.1 c.requires.walkable (grind (arith, nat_tests)) c.chain_at-chain.ensures.number c.chain_at-chain.result.few c.requires.row place q;
+      leaves = leaves_out c.args.way t c.point.new.self.table.now h c.point.new.self.heads c.args.i c.args.pair.now.0 number spot.before spot.at c.args.pair.now.1 c.requires.walkable (grind (arith, nat_tests)) c.chain_at-chain.ensures.number c.chain_at-chain.result.few c.requires.row place q;
     }

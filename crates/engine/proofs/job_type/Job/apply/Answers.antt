@@ -1,7 +1,10 @@
-use Rattle.std.proofs.Common.{◌≡◌, ◌+◌, subst, sym, ◌∙◌, add-one}
+use Rattle.std.proofs.Common.{◌≡◌, ◌+◌, [], get_or, subst, sym, ◌∙◌, add-one, rules}
+use Rattle.std.proofs.lemmas.List.{length-map}
+use Rattle.stores.specs.Store.{label}
+use Rattle.engine.proofs.Takings.{count-took}
 use Rattle.rules.specs.Sets.{closed_rules}
 use Rattle.machine.specs.declared.answer_types.Answer.TheVariants.{Refused}
-use Rattle.machine.specs.Machine.{State, chosen, shortage, bring, listed, try_choice}
+use Rattle.machine.specs.Machine.{State, taken_of, chosen, shortage, bring, listed, try_choice}
 use Rattle.engine.specs.Applying.{rule_at, place_at, choice_in, facts_in, left_by, leaving_labels, used_labels}
 use Rattle.engine.specs.Goals.{below}
 use Rattle.engine.specs.Jobs.{state_of, frame_of, frame_on, IsOutcome}
@@ -54,7 +57,8 @@ returns-in-Ok-clause-outcome g c =
     let f = found-is r o x c.requires.found in
     let e = c.in-Ok.ensures in
     let st : state_of m n ≡ state_of m j = λ i. record { pairs = (m (e.store i)).pairs; next = e.next i; goals = e.goals i } in
+    let ts = taken_of s r (m j.store).pairs (choice_in o) in
     apply_done (frame_of s m j) (place_at (closed_rules j.set) p) c.args.active (state_of m j) (choice_in o) n.scratch.taken n.scratch.body c.in-Ok.weighed x e.weighed f.labels
-    c.args.number c.args.list.now o c.requires.top f.chosen (state_of m c.carry_out.new.self) c.carry_out.new.list (p.rule + 1) (add-one p.rule)
+    c.args.number c.args.list.now c.len.result c.len-in-Ok.result (c.len.ensures.count ∙ (count-took n.scratch.taken ts 0 c.index-self-0.result e.weighed.took (search rules) ∙ length-map (get_or ts 0 []) label)) (c.len-in-Ok.ensures.count ∙ (count-took n.scratch.taken ts 1 c.index-self-1.result e.weighed.took (search rules) ∙ length-map (get_or ts 1 []) label)) o c.requires.top f.chosen (state_of m c.carry_out.new.self) c.carry_out.new.list (p.rule + 1) (add-one p.rule)
     (c.carry_out.ensures.state ∙ (λ i. bring (closed_rules (e.set i)) (facts_in n.scratch.body) (left_by (leaving_labels (rule_at (closed_rules (e.set i)) p) x n.scratch.taken) c.in-Ok.weighed.goes (st i))))
     (c.carry_out.ensures.list ∙ (λ i. listed (used_labels (rule_at (closed_rules (e.set i)) p) x n.scratch.taken) c.args.list.now))

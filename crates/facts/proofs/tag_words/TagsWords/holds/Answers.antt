@@ -2,9 +2,5 @@ use Rattle.std.proofs.Common.{rules}
 use Rattle.facts.specs.Sets.{compared_as_sets}
 use Rattle.facts.proofs.tag_words.TagsWords.holds.Goals as goal
 
-pub returns-then-is_tag_set-2 : goal.returns-then-is_tag_set-2
-returns-then-is_tag_set-2 c =
-    record {
-      value = search rules;
-      sets = compared_as_sets c.args.relation c.args.left c.args.right _ (search rules);
-    }
+pub returns-clause-sets : goal.returns-clause-sets
+returns-clause-sets c = compared_as_sets c.args.relation c.args.left c.args.right _ (search rules)

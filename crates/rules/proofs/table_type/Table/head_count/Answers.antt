@@ -1,22 +1,12 @@
-use Rattle.std.proofs.Common.{◌≡◌, ◌+◌, ◌∷◌, map, drop, sym, ap, ◌∙◌, arith}
-use Rattle.rules.specs.Rules.{rule_seen}
-use Rattle.rules.specs.Closed.{head_count}
-use Rattle.rules.proofs.Heads.{rule-more, heads-seen, rules-end}
+use Rattle.std.proofs.Common.{length, ◌∙◌, rules}
+use Rattle.std.proofs.lemmas.Iterator.{YieldsList-from_map, YieldsList-from_slice}
+use Rattle.std.proofs.lemmas.Iterator.Consumers.{YieldsList-at, sum_by_from_yields_List}
+use borrow.Author.Tests.{tests}
+use Rattle.lists.specs.Held.{held}
+use Rattle.rules.proofs.Heads.{heads-sum}
 use Rattle.rules.proofs.table_type.Table.head_count.Goals as goal
-
-pub overflow_add-heads : goal.overflow_add-heads
-overflow_add-heads c = omega (arith, c.len-heads.ensures.bound, c.loop-rule.invariant.1)
-
-pub loop-rule-preserved : goal.loop-rule-preserved
-loop-rule-preserved c =
-    let rs = c.as_slice-rule-items.result.now in
-    let i = c.loop-rule.rule-index in
-    let m = rule-more head_count rs i c.rule-item.result c.loop-rule-test.true ∙ ap (λ r. head_count (rule_seen r ∷ map rule_seen (drop (i + 1) rs))) (sym c.rule-item.is) in
-    let n = heads-seen c.rule-item.result in
-    (omega (arith, m, n, c.len-heads.ensures.count, c.loop-rule.invariant.0), omega (arith, c.len-heads.ensures.bound, c.loop-rule.invariant.1))
 
 pub returns : goal.returns
 returns c =
-    let e = rules-end head_count c.as_slice-rule-items.result.now c.loop-rule.rule-index (omega arith) in
-    let n : c.loop-rule.heads ≡ head_count (map rule_seen c.as_slice-rule-items.result.now) = omega (arith, e, c.loop-rule.invariant.0) in
-    n ∙ ap (λ rs. head_count (map rule_seen rs)) c.as_slice-rule-items.ensures.items
+    sum_by_from_yields_List (λ r. length (held r.singles)) (held c.args.self.now.rules) _ c.sum.result c.sum.ensures.ran (YieldsList-from_map _ (λ r. length (held r.singles)) (YieldsList-at c.map.ensures.source (YieldsList-from_slice (held c.args.self.now.rules) cc)) c.map.ensures.closure (λ x b q k. search (rules, tests)))
+    ∙ heads-sum (held c.args.self.now.rules)
