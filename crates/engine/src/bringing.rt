@@ -31,7 +31,8 @@ fn put_next<S: Store>(store: &mut S, label: u32, fact: Fact)
 }
 
 // Those that are stored at once get the labels from a first one on. Answers the label after theirs.
-// By hand, here and below: `room` and `labels` tie the store, the set and the facts, each of which is lent alone, so no type has them.
+// By hand, in this file: what is asked of room and labels ties two of what is lent, the store, the set, the facts, a label and the goals. A
+// struct of what is lent would be made for each call, and ask the same where it is made.
 fn store_watched<W: Words, S: Store>(
     set: &ClosedSet<W>,
     store: &mut S,

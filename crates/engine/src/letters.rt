@@ -7,6 +7,7 @@ use facts::{Fact, WORDS};
 use rules::{Argument, LETTERS, Pattern};
 
 /// How many letters there are.
+// `as`: `usize::from` is no constant function.
 pub(crate) const LETTER_COUNT: usize = LETTERS as usize;
 
 /// The word of each letter that is bound.

@@ -58,7 +58,7 @@ pub fn perform<W: Words + Drop, S: Store + Drop>(
     Job::<W, S>::may_create(&store)?;
     let mut job = Job::<W, S>::create(set, store);
     let count = acts.len().min(replies.len());
-    // By hand: a `zip` with `iter_mut` leaves the values unknown, as in `fill_words`, and the proof of `replies` would stay open.
+    // By hand: a `zip` with `iter_mut` leaves the values unknown, as in `fill_words`; over `iter_mut` alone the acts would be indexed.
     for (done, act) in acts[..count].iter().enumerate() {
         replies[done] = do_act(&mut job, act, list);
     }

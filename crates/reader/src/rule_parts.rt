@@ -37,14 +37,16 @@ fn read_words<J: Judges>(
 }
 
 // A head: its kind, its arguments, and a field that is not used.
+// Rule and sort are two here and above: `Arguments` borrows the rule, which `add_head` is lent to change.
 fn read_pattern<W: Words>(
-    arguments: &Arguments<'_, W>,
+    rule: &RuleHead<W>,
+    sort: HeadSort,
     row: &RuleRow<'_>,
 ) -> Result<Pattern, RowFault>
-    ensures { refused_as row_refusal result ≡ head row.now.row (argument_verdict W.Words.system.valid (head_draft arguments.now.rule.now) arguments.now.sort) (cells row.now) }
+    ensures { refused_as row_refusal result ≡ head row.now.row (argument_verdict W.Words.system.valid (head_draft rule.now) sort) (cells row.now) }
 {
     let kind = row.cell(2).kind()?;
-    let args = read_words(arguments, Argument::Any, row, 3)?;
+    let args = read_words(&Arguments { rule, sort }, Argument::Any, row, 3)?;
     row.unused_from(6)?;
     Ok(Pattern { kind, args })
 }
@@ -90,34 +92,10 @@ pub(crate) fn read_head_part<W: Words>(
     ensures { refused_as row_refusal result ≡ head_part W.Words.system.valid row.now.row (head_draft rule.now) sort (cells row.now) }
 {
     match sort {
-        HeadSort::Keep => {
-            let arguments = Arguments {
-                rule,
-                sort: HeadSort::Keep,
-            };
-            read_pattern(&arguments, row).map(HeadPart::Keep)
-        }
-        HeadSort::Drop => {
-            let arguments = Arguments {
-                rule,
-                sort: HeadSort::Drop,
-            };
-            read_pattern(&arguments, row).map(HeadPart::Drop)
-        }
-        HeadSort::KeepAll => {
-            let arguments = Arguments {
-                rule,
-                sort: HeadSort::KeepAll,
-            };
-            read_pattern(&arguments, row).map(HeadPart::KeepAll)
-        }
-        HeadSort::DropAll => {
-            let arguments = Arguments {
-                rule,
-                sort: HeadSort::DropAll,
-            };
-            read_pattern(&arguments, row).map(HeadPart::DropAll)
-        }
+        HeadSort::Keep => read_pattern(rule, HeadSort::Keep, row).map(HeadPart::Keep),
+        HeadSort::Drop => read_pattern(rule, HeadSort::Drop, row).map(HeadPart::Drop),
+        HeadSort::KeepAll => read_pattern(rule, HeadSort::KeepAll, row).map(HeadPart::KeepAll),
+        HeadSort::DropAll => read_pattern(rule, HeadSort::DropAll, row).map(HeadPart::DropAll),
         HeadSort::Only => read_comparison(&Terms { rule, taken: true }, row).map(HeadPart::Only),
         HeadSort::When => read_comparison(&Terms { rule, taken: false }, row).map(HeadPart::When),
     }

@@ -4,9 +4,6 @@ use Rattle.engine.proofs.Seen.{stored_more, stored_same}
 use Rattle.engine.proofs.bringing.store_watched.Goals as goal
 use Rattle.engine.proofs.bringing.store_watched.Goals.{then-watches, else-watches}
 
-pub put_next-requires-clause-low : goal.put_next-requires-clause-low
-put_next-requires-clause-low g c = c.loop-fact.invariant.0
-
 pub loop-fact-preserved : goal.loop-fact-preserved
 loop-fact-preserved g c =
     let m = g.S.Store.meaning in

@@ -8,9 +8,6 @@ use Rattle.reader.proofs.RuleCells.{cells_six}
 use Rattle.reader.proofs.RuleLoops.{JudgedSoFar, judged-none, judged-more, judged_stops, judged-all, word_at, words_count, judged-here}
 use Rattle.reader.proofs.rule_parts.read_words.Goals as goal
 
-pub loop-i-init : goal.loop-i-init
-loop-i-init g c = (refl, judged-none c.args.row.now.row c.args.first g.J.Judges.reads (g.J.Judges.verdict c.args.judge.now) (words_from c.args.first (cells c.args.row.now)))
-
 pub returns-in_err-word : goal.returns-in_err-word
 returns-in_err-word g c =
     let p = err_from_is_err_and c.from_residual.result c.from_residual.ensures.1 in
@@ -21,8 +18,3 @@ loop-i-preserved g c =
     let more = judged-more c.args.row.now.row c.args.first g.J.Judges.reads (g.J.Judges.verdict c.args.judge.now) (words_from c.args.first (cells c.args.row.now)) c.loop-i.i (take c.loop-i.i c.loop-i.word-items) (omega (arith, words_count c.args.first (cells c.args.row.now) (omega arith) (omega (arith, cells_six c.args.row.now)))) c.loop-i.invariant.1 c.in_ok-word.field-0 (judged-here g.J.Judges.reads (g.J.Judges.verdict c.args.judge.now) _ c.cell.result.place c.cell.result.text.now (get_or (words_from c.args.first (cells c.args.row.now)) c.loop-i.i []) c.args.row.now.row (c.args.first + c.loop-i.i) c.cell.ensures.place (c.cell.ensures.text ∙ word_at c.args.first c.loop-i.i (cells c.args.row.now) (omega arith) (omega arith)) c.in_ok-word.ensures) in
     let front = take_more_set c.loop-i.word-items c.loop-i.i c.in_ok-word.field-0 (omega (arith, c.loop-i.invariant.0)) in
     (length-set c.loop-i.word-items c.loop-i.i c.in_ok-word.field-0 ∙ c.loop-i.invariant.0, subst (JudgedSoFar c.args.row.now.row c.args.first g.J.Judges.reads (g.J.Judges.verdict c.args.judge.now) (words_from c.args.first (cells c.args.row.now)) (c.loop-i.i + 1)) (sym front) more)
-
-pub returns : goal.returns
-returns g c =
-    let all = take_all c.loop-i.i c.loop-i.word-items (omega (arith, c.loop-i.invariant.0)) in
-    ap (λ x. Ok x) (sym all) ∙ judged-all c.args.row.now.row c.args.first g.J.Judges.reads (g.J.Judges.verdict c.args.judge.now) (words_from c.args.first (cells c.args.row.now)) c.loop-i.i (take c.loop-i.i c.loop-i.word-items) (omega (arith, words_count c.args.first (cells c.args.row.now) (omega arith) (omega (arith, cells_six c.args.row.now)))) c.loop-i.invariant.1

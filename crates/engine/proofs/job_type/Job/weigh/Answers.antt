@@ -30,16 +30,6 @@ room_for_body-requires-clause-few g c =
 same_fault : (e : StepFault) → ◌≡◌ {A = Result (Unit {0}) StepFault} (Err e) (Err fault.Body) → e ≡ fault.Body
 same_fault e h = cc
 
-pub returns-in_err-ok_or-clause-weighed : goal.returns-in_err-ok_or-clause-weighed
-returns-in_err-ok_or-clause-weighed g c =
-    let j = c.args.self.now in
-    let w = weighing_is g.W.Words.system (closed_rules j.set) j.next j.goals c.args.place c.args.active (g.S.Store.meaning j.store) c.rule_of-rule.result.now c.args.choice.now c.rule_of-rule.ensures.record (g.S.Store.owed j.store) c.requires.place c.requires.found in
-    let none = c.ok_or.ensures.ok_part ∙ ap result_ok c.in_err-ok_or.was in
-    let h = refused-body w c.body_of.new.made c.body_of.result none c.body_of.ensures in
-    let p = err_from_is_err_and c.from_residual.result c.from_residual.ensures.1 in
-    let e = same_fault c.in_err-ok_or.field-0.0 (sym c.in_err-ok_or.was ∙ (c.ok_or.ensures.value ∙ ap (λ o. ok_or o fault.Body) none)) in
-    rw p.1 (h ∙ ap Some (sym (p.2 ∙ e)))
-
 pub returns-in_err-room_for_body-clause-weighed : goal.returns-in_err-room_for_body-clause-weighed
 returns-in_err-room_for_body-clause-weighed g c =
     let j = c.args.self.now in

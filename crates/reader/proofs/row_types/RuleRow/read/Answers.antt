@@ -3,9 +3,6 @@ use Rattle.rows.specs.Fields.{field_seen}
 use Rattle.reader.proofs.RuleCells.{contents, texts_none, texts-broken, texts-more, texts-all, contents_more}
 use Rattle.reader.proofs.row_types.RuleRow.read.Goals as goal
 
-pub loop-i-init : goal.loop-i-init
-loop-i-init c = (refl, texts_none c.args.bytes.now)
-
 pub returns-in_err-field : goal.returns-in_err-field
 returns-in_err-field c =
     rw c.from_residual.ensures

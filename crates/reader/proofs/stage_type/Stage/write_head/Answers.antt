@@ -16,8 +16,3 @@ returns-in_err-add_head-in-Head-clause-step g c =
 pub returns-in_ok-add_head-in-Head-clause-step : goal.returns-in_ok-add_head-in-Head-clause-step
 returns-in_ok-add_head-in-Head-clause-step g c =
     head-written g.W.Words.system.valid c.args.row.now.row (cells c.args.row.now) (head_rules c.in-Head.rule) c.in-Head.at (head_draft c.in-Head.rule) c.args.sort (head_draft c.add_head.new.rule) (head_rules c.add_head.new.rule) c.in_ok-add_head-in-Head.ensures.rules c.in_ok-add_head-in-Head.ensures.draft ∙ ap (λ (s : Stage g.row.W.Denot). write_head g.W.Words.system.valid c.args.row.now.row (cells c.args.row.now) c.args.sort (stage_seen s)) (sym c.in-Head.is)
-
-pub returns-in-Before : goal.returns-in-Before
-returns-in-Before g c =
-    let none : NoHead c.args.self = ⊎_elim (λ e. rw e tt) (λ e. rw e.2 tt) c.in-Before.is in
-    rw c.whole.ensures (record { step = head_late g.W.Words.system.valid c.args.row.now.row (cells c.args.row.now) c.args.sort c.args.self none c.requires; begun = tt })
