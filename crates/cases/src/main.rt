@@ -5,8 +5,7 @@ mod jobs;
 
 use facts::{Fact, Lengths};
 use jobs::run_job;
-use printing::NO_FACTS;
-use reader::{Layer, Refusal, load_facts};
+use reader::{Layer, Refusal, load_facts, no_facts};
 use std::{fs, io};
 
 /// Files of at most so many facts are printed with their facts.
@@ -52,9 +51,9 @@ fn print_refusal<R: Print>(rt: &R, name: &str, refusal: &Refusal) -> io::Result<
 }
 
 fn run_case<R: Print>(rt: &R, name: &str, file: Option<&[u8]>) -> io::Result<()> {
-    let mut table = NO_FACTS;
-    match load_facts::<Lengths>(file, &mut table) {
-        Ok(count) => print_facts(rt, name, &table[0..count]),
+    let mut facts = no_facts();
+    match load_facts::<Lengths>(file, &mut facts) {
+        Ok(()) => print_facts(rt, name, facts.as_slice()),
         Err(refusal) => print_refusal(rt, name, &refusal),
     }
 }

@@ -100,9 +100,6 @@ pub record Asking (kind : ℕ) (word : ℤ) (above : ℕ) (at : Option ℕ) (R :
   pub next : points R at (next_in (on_chain (chain_at ByWord) (chain_of ByWord 0 kind word)) a (pairs_of R)) ≡ true
   pub same : next_in (λ p. of_kind_with kind word (fact p)) a (pairs_of R) ≡ next_with kind word above (pairs_of R)
 
-pub asking_begin : (kind : ℕ) (word : ℤ) (above : ℕ) (at : Option ℕ) (R : List Row) → points R at (next_in (on_chain (chain_at ByWord) (chain_of ByWord 0 kind word)) above (pairs_of R)) ≡ true → Asking kind word above at R above
-asking_begin kind word above at R p = record { next = p; same = sym (next_in_that (of_kind_with kind word) above (pairs_of R)) }
-
 pub asking_at : (kind : ℕ) (word : ℤ) (above : ℕ) (at : Option ℕ) (i : ℕ) (R : List Row) (a : ℕ) → at ≡ Some i → Asking kind word above at R a → Asking kind word above (Some i) R a
 asking_at kind word above at i R a e q = rw (← e) q
 

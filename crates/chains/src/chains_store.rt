@@ -2,13 +2,14 @@
 ghost use Rattle.std.specs.Prelude.{◌≡◌, true, pos, slice_index_or};
 ghost use Rattle.stores.specs.Store.{of_kind_with};
 ghost use Rattle.stores.specs.Piles.{sound_pair};
-ghost use Rattle.stores.specs.Table.{pile_of};
-ghost use Rattle.chains.specs.Rows.{rows_of};
+ghost use Rattle.stores.specs.Table.{pile_of, pairs_of};
+ghost use Rattle.chains.specs.Links.{points, next_in, on_chain};
+ghost use Rattle.chains.specs.Rows.{rows_of, chain_at};
 ghost use Rattle.chains.specs.Acts.{asked_label, Finds, Replaces};
 
 use crate::chain_types::{CHAINS, Chain, ChainRow, Way};
 use crate::chains_type::Chains;
-use crate::ways::chain_of;
+use crate::ways::{chain_at, chain_of};
 use facts::{Fact, KINDS};
 use stores::{Store, StoreFault, check_pair, is_asked_for};
 
@@ -35,6 +36,19 @@ impl Chains<'_> {
         let at = self.linked.place(chain, label - 1).at?;
         let (held, fact) = self.linked.table[at as usize].row?;
         (held == label).then_some((at, fact))
+    }
+
+    /// The first row of a chain whose label is above another. Where the other's own row stands on the chain, it is that row's next one.
+    fn first_above(&self, chain: Chain, above: u32) -> Option<u32>
+        ensures { points (rows_of self.now.linked.table.now) result (next_in (on_chain (chain_at chain.way) chain.number) above (pairs_of (rows_of self.now.linked.table.now))) ≡ true }
+    {
+        let table = &*self.linked.table;
+        if let Some((i, fact)) = self.held(above)
+            && chain_at(chain.way, &(above, fact)).number == chain.number
+        {
+            return table[i as usize].next(chain.way);
+        }
+        self.linked.place(chain, above).at
     }
 
     /// Puts a fact in the place of one of its kind and first word, so that no row changes its chains; or answers none and changes nothing.
@@ -77,7 +91,7 @@ impl Store for Chains<'_> {
         Some(fact)
     }
 
-    /// There are as many chains as kinds, so all rows of the chain have the kind.
+    /// There are as many chains as kinds, so all rows of the chain have the kind. Above the label of one of them it is not walked.
     fn next(&self, kind: u8, above: u32) -> Option<u32> {
         if kind >= KINDS {
             return None;
@@ -86,13 +100,13 @@ impl Store for Chains<'_> {
             way: Way::ByKind,
             number: usize::from(kind),
         };
-        let at = self.linked.place(chain, above).at?;
+        let at = self.first_above(chain, above)?;
         let (label, _) = self.linked.table[at as usize].row?;
         Some(label)
     }
 
     /// The walk ends at the first row that fits, since behind it the labels are greater.
-    // By hand, as in `place`.
+    // By hand, as in `place`. Begun by `first_above`, the workload `shortest` took 324 million instructions in the place of 305.
     fn next_with(&self, kind: u8, word: i64, above: u32) -> Option<u32> {
         let chain = chain_of(Way::ByWord, 0, kind, word);
         let table = &*self.linked.table;

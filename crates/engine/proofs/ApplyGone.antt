@@ -1,5 +1,5 @@
 -- Which labels leave a store in an application, and that they may leave one row after the other.
-use Rattle.std.proofs.Common.{◌≡◌, ℕ, Bool, true, false, cond, not, ◌||◌, List, [], ◌∷◌, ◌++◌, length, take, drop, sym, refl, ap, ◌∙◌, arith, length-take-le}
+use Rattle.std.proofs.Common.{◌≡◌, ℕ, Bool, true, false, cond, not, ◌||◌, List, [], ◌∷◌, ◌++◌, length, drop, sym, refl, ap, ◌∙◌, arith, length-take-le}
 use Rattle.std.proofs.lemmas.Bool.Decides.{nat_tests}
 use Rattle.rules.specs.declared.rule_types.RuleRecord.{RuleRecord}
 use Rattle.lists.specs.Held.{held}
@@ -35,7 +35,7 @@ pub no-row : (m : Pile) (ls : List ℕ) → ls ≡ [] → m ≡ with_pairs m (wi
 no-row m ls e = sym (left_all 0 [] m (omega arith)) ∙ ap (λ l. with_pairs m (without l m.pairs)) (sym e)
 
 -- the labels of the `drop` heads
-pub drops_of : (r : RuleRecord) (ls : List ℕ) → drop r.keep_count (take r.singles.count ls) ≡ drop (length (rule_seen r).keeps) (take r.singles.count ls)
+pub drops_of : (r : RuleRecord) (ls : List ℕ) → drop r.keep_count ls ≡ drop (length (rule_seen r).keeps) ls
 drops_of r ls =
     let k : length (rule_seen r).keeps ≡ r.keep_count = length-take-le r.keep_count (held r.singles) (omega (arith, r.keeps, held-count r.singles)) in
-    ap (λ n. drop n (take r.singles.count ls)) (sym k)
+    ap (λ n. drop n ls) (sym k)

@@ -1,10 +1,10 @@
 -- What an application comes to, refused or done, is what the machine makes of it.
-use Rattle.std.proofs.Common.{◌≡◌, ℕ, cond, List, [], ◌∷◌, ◌++◌, map, flat_map, length, get_or, take, drop, Some, None, Option, sym, refl, ap, subst, ◌∙◌, arith}
+use Rattle.std.proofs.Common.{◌≡◌, ℕ, cond, List, [], ◌∷◌, ◌++◌, map, flat_map, length, get_or, drop, Some, None, Option, sym, refl, ap, subst, ◌∙◌, arith}
 use Rattle.std.specs.Prelude.{option_map}
 use Rattle.std.proofs.lemmas.List.{drop-map}
 use Rattle.facts.specs.System.{System}
 use Rattle.facts.specs.declared.fact_types.Fact.{Fact}
-use Rattle.rules.specs.Closed.{heads_of, Place}
+use Rattle.rules.specs.Closed.{Place}
 use Rattle.stores.specs.Lists.{has}
 use Rattle.stores.specs.Store.{Pair, label, labels, facts, without}
 use Rattle.machine.specs.declared.answer_types.Answer.TheVariants.{Applied, Refused}
@@ -57,7 +57,7 @@ apply_refused fr h l i st ns c o e t q k =
 
 -- done -----------------------------------------------------------------------------------------------------------------
 
-module _ (fr : Frame) (h : Place) (l : ℕ) (st : State) (c : List Pair) (tk : List Taken) (bd : Body) (w : Weighed) (x : Choice) (k : IsReady fr h l st c tk bd w) (found : take (heads_of h.rule) x.labels ≡ labels c) where
+module _ (fr : Frame) (h : Place) (l : ℕ) (st : State) (c : List Pair) (tk : List Taken) (bd : Body) (w : Weighed) (x : Choice) (k : IsReady fr h l st c tk bd w) (found : held x.labels ≡ labels c) where
   taken : List (List Pair)
   taken = taken_of fr.system h.rule st.pairs c
 
@@ -73,7 +73,7 @@ module _ (fr : Frame) (h : Place) (l : ℕ) (st : State) (c : List Pair) (tk : L
       ∙ ((λ i. drop-map label (length r.keeps) c i ++ gone-took r.alls taken tk taken-long k.alls k.took i)
       ∙ sym (map-append label (drop (length r.keeps) c) (gone_alls r.alls taken)))
 
-  used : used_labels h.rule x tk ≡ labels c ++ flat_map labels (taken_of fr.system h.rule st.pairs c)
+  used : used_labels x tk ≡ labels c ++ flat_map labels (taken_of fr.system h.rule st.pairs c)
   unfolding taken
   used =
       λ i. found i ++ together-took tk taken (omega (arith, taken-long, k.alls)) k.took i
@@ -104,7 +104,7 @@ module _ (fr : Frame) (h : Place) (l : ℕ) (st : State) (c : List Pair) (tk : L
         ∙ ap (apply_room fr st ns left (account fr.system h l st.pairs c fs) fs) free))
 
     pub apply_done : (st' : State) (ns' : List ℕ) (n : ℕ) → n ≡ h.number →
-        st' ≡ bring fr.rules (facts_in bd) (left_by (leaving_labels h.rule x tk) w.goes st) → ns' ≡ listed (used_labels h.rule x tk) ns →
+        st' ≡ bring fr.rules (facts_in bd) (left_by (leaving_labels h.rule x tk) w.goes st) → ns' ≡ listed (used_labels x tk) ns →
         IsOutcome (try_choice fr h l i (below st.goals) st ns o) st'
         (Applied (record { rule = n; active = l; took = first ∷ (second ∷ []); removed = w.removed; added = bd.count })) ns'
     unfolding fs left done

@@ -11,7 +11,7 @@ use Rattle.rules.specs.declared.rule_types.RuleRecord.{RuleRecord}
 use Rattle.rules.specs.declared.rule_types.HeadPlace.{HeadPlace}
 use Rattle.rules.specs.Rules.{Rule, rule_seen, all}
 use Rattle.rules.specs.Closed.{heads_of, Place, stand, every_word}
-use Rattle.rules.proofs.Records.{singles-count, alls-count}
+use Rattle.rules.proofs.Records.{alls-count}
 use Rattle.lists.specs.Held.{held}
 use Rattle.lists.proofs.Held.{held-count}
 use Rattle.stores.specs.Lists.{has}
@@ -20,7 +20,6 @@ use Rattle.stores.specs.Piles.{Pile, Owed}
 use Rattle.stores.proofs.Pairs.{length-kept}
 use Rattle.machine.specs.declared.answer_types.Shortage.{Shortage}
 use Rattle.machine.specs.declared.answer_types.Shortage.TheVariants.{Goals}
-use Rattle.machine.specs.declared.answer_types.StepFault.TheVariants as fault
 use Rattle.machine.specs.declared.goal_types.Goal.{Goal}
 use Rattle.machine.specs.Faults.{short_step}
 use Rattle.machine.specs.Fitting.{setting_of, body}
@@ -51,21 +50,25 @@ at-mem (x ∷ xs) (suc i) d h = Memᴰ.tail (at-mem xs i d (omega arith))
 
 pub record Found (r : Rule) (o : Option (List Pair)) (x : Choice) : Type 0 where
   pub chosen : o ≡ Some (choice_in o)
-  pub labels : take (heads_of r) x.labels ≡ map label (choice_in o)
+  pub labels : held x.labels ≡ map label (choice_in o)
   pub letters : setting_in x.letters ≡ setting_of r (map fact (choice_in o))
 
 pub found-is : (r : Rule) (o : Option (List Pair)) (x : Choice) → IsFound r o (Some x) → Found r o x
 found-is r None x h = absurd h
 found-is r (Some c) x h = record { chosen = refl; labels = h.0; letters = h.1 }
 
+-- a choice that was found has a label for each single head
+pub whole-chosen : (s : System) (r : Rule) (place l : ℕ) (ps : List Pair) (x : Choice) → IsFound r (chosen s r place l ps) (Some x) → length (held x.labels) ≡ heads_of r
+whole-chosen s r place l ps x h =
+    let o = chosen s r place l ps in
+    let f = found-is r o x h in
+    let k = chosen-is s r place l ps (choice_in o) f.chosen in
+    omega (arith, ap length f.labels, length-map (choice_in o) label, k.many)
+
 -- bodies ---------------------------------------------------------------------------------------------------------------
 
 none_some : {X : Type 0} (x : X) → None ≡ Some x → ⊥
 none_some x e = cc
-
-pub no-body : (o : Option (List Fact)) (b : Body) → IsBody o b None → o ≡ None
-no-body None b h = refl
-no-body (Some fs) b h = absurd (none_some tt h.0)
 
 pub some-body : (o : Option (List Fact)) (b : Body) → IsBody o b (Some tt) → (fs : List Fact) × (o ≡ Some fs) × HasFacts fs b
 some-body None b h = absurd (none_some tt (sym h))
@@ -103,7 +106,7 @@ pub record Weighing (fr : Frame) (st : State) (h : Place) (l : ℕ) (c : List Pa
   pub means : rule_seen o ≡ h.rule
   pub chosen : Chosen fr.system h.rule h.place l st.pairs c
   pub placed : h.place < heads_of h.rule
-  pub found : take (heads_of h.rule) x.labels ≡ labels c
+  pub found : held x.labels ≡ labels c
   pub letters : setting_in x.letters ≡ setting_of h.rule (facts c)
 
 pub weighing_is : (s : System) (rules : List Rule) (next : ℕ) (goals : List Goal) (p : HeadPlace) (l : ℕ) (m : Pile) (o : RuleRecord) (x : Choice) →
@@ -129,25 +132,19 @@ module _ {fr : Frame} {st : State} {h : Place} {l : ℕ} {c : List Pair} {m : Pi
   few-pairs : length st.pairs ≤ 1024
   few-pairs = omega (arith, owed-length m w.owed, ap length w.pairs)
 
-  heads : o.singles.count ≡ heads_of h.rule
-  heads = sym (singles-count o) ∙ ap heads_of w.means
-
   alls : length h.rule.alls ≤ 2
   alls = omega (arith, o.alls.few, alls-count o, ap (λ (r : Rule). length r.alls) w.means)
 
-  row : take o.singles.count x.labels ≡ labels c
-  row = ap (λ n. take n x.labels) heads ∙ w.found
+  pub same-taken : all_taken fr.system (setting_in x.letters) (rule_seen o) (held x.labels) st.pairs ≡ taken_of fr.system h.rule st.pairs c
+  same-taken = λ i. all_taken fr.system (w.letters i) (w.means i) (w.found i) st.pairs
 
-  pub same-taken : all_taken fr.system (setting_in x.letters) (rule_seen o) (take o.singles.count x.labels) st.pairs ≡ taken_of fr.system h.rule st.pairs c
-  same-taken = λ i. all_taken fr.system (w.letters i) (w.means i) (row i) st.pairs
-
-  pub same-given : body fr.system (setting_in x.letters) (rule_seen o) (map facts (all_taken fr.system (setting_in x.letters) (rule_seen o) (take o.singles.count x.labels) st.pairs)) ≡ given_of fr.system h.rule st.pairs c
+  pub same-given : body fr.system (setting_in x.letters) (rule_seen o) (map facts (all_taken fr.system (setting_in x.letters) (rule_seen o) (held x.labels) st.pairs)) ≡ given_of fr.system h.rule st.pairs c
   same-given = λ i. body fr.system (w.letters i) (w.means i) (map facts (same-taken i))
 
-  pub took-is : (t : List Taken) → Took (all_taken fr.system (setting_in x.letters) (rule_seen o) (take o.singles.count x.labels) st.pairs) t → Took (taken_of fr.system h.rule st.pairs c) t
+  pub took-is : (t : List Taken) → Took (all_taken fr.system (setting_in x.letters) (rule_seen o) (held x.labels) st.pairs) t → Took (taken_of fr.system h.rule st.pairs c) t
   took-is t a = subst (λ ts. Took ts t) same-taken a
 
-  pub given-body : (b : Body) (a : Option (Unit {0})) → a ≡ Some tt → IsBody (body fr.system (setting_in x.letters) (rule_seen o) (map facts (all_taken fr.system (setting_in x.letters) (rule_seen o) (take o.singles.count x.labels) st.pairs))) b a →
+  pub given-body : (b : Body) (a : Option (Unit {0})) → a ≡ Some tt → IsBody (body fr.system (setting_in x.letters) (rule_seen o) (map facts (all_taken fr.system (setting_in x.letters) (rule_seen o) (held x.labels) st.pairs))) b a →
       (fs : List Fact) × (given_of fr.system h.rule st.pairs c ≡ Some fs) × HasFacts fs b
   given-body b a e k =
       some-body (given_of fr.system h.rule st.pairs c) b (subst (λ (x : Option (Unit {0})). IsBody (given_of fr.system h.rule st.pairs c) b x) e (subst (λ y. IsBody y b a) same-given k))
@@ -174,13 +171,6 @@ module _ {fr : Frame} {st : State} {h : Place} {l : ℕ} {c : List Pair} {m : Pi
     given-kinds : (fs : List Fact) → given_of fr.system h.rule st.pairs c ≡ Some fs → all has_kind fs ≡ true
     given-kinds fs e = body-kinds fr.system (setting_of h.rule (facts c)) h.rule (map facts (taken_of fr.system h.rule st.pairs c)) given-stands fs e
 
-  -- a body without a value is the fault
-  pub refused-body : (b : Body) (a : Option (Unit {0})) → a ≡ None → IsBody (body fr.system (setting_in x.letters) (rule_seen o) (map facts (all_taken fr.system (setting_in x.letters) (rule_seen o) (take o.singles.count x.labels) st.pairs))) b a →
-      fault_of fr (left_in fr.system h l st c) (given_of fr.system h.rule st.pairs c) ≡ Some fault.Body
-  refused-body b a e k =
-      let k' = subst (λ (x : Option (Unit {0})). IsBody (given_of fr.system h.rule st.pairs c) b x) e (subst (λ y. IsBody y b a) same-given k) in
-      ap (fault_of fr (left_in fr.system h l st c)) (no-body (given_of fr.system h.rule st.pairs c) b k')
-
   -- what leaves
   module _ (t : List Taken) (took : Took (taken_of fr.system h.rule st.pairs c) t) where
     pub removed-is : gone_number (rule_seen o) (map held t) ≡ length (gone_of fr.system h.rule st.pairs c)
@@ -193,14 +183,14 @@ module _ {fr : Frame} {st : State} {h : Place} {l : ℕ} {c : List Pair} {m : Pi
     pub used-within : heads_of h.rule + length (flat_map held t) ≤ length st.pairs
     used-within = omega (arith, length-took t (taken_of fr.system h.rule st.pairs c) took, took-within fr.system h.rule h.place l st.pairs c apart w.chosen alls)
 
-    pub goes-is : has l (drop o.keep_count (take o.singles.count x.labels)) ≡ has l (labels (gone_of fr.system h.rule st.pairs c))
+    pub goes-is : has l (drop o.keep_count (held x.labels)) ≡ has l (labels (gone_of fr.system h.rule st.pairs c))
     goes-is =
-        ap (has l) (drops_of o x.labels ∙ (λ i. drop (length (w.means i).keeps) (row i)))
+        ap (has l) (drops_of o (held x.labels) ∙ (λ i. drop (length (w.means i).keeps) (w.found i)))
         ∙ sym (active-goes fr.system h.rule h.place l st.pairs c apart w.chosen w.placed)
 
     -- whether there is room
     module _ (removed : ℕ) (goes : Bool) (b : Body) (fs : List Fact) (gone : removed ≡ gone_number (rule_seen o) (map held t))
-        (top : goes ≡ has l (drop o.keep_count (take o.singles.count x.labels))) (some_goal : 1 ≤ length st.goals) (has' : HasFacts fs b)
+        (top : goes ≡ has l (drop o.keep_count (held x.labels))) (some_goal : 1 ≤ length st.goals) (has' : HasFacts fs b)
         (given : given_of fr.system h.rule st.pairs c ≡ Some fs) where
       left : State
       left = left_in fr.system h l st c

@@ -257,15 +257,6 @@ found s σ r ls m tk w k = record { facts_over = λ o. ap (λ xs. facts (pairs_a
         let b : length (map facts (all_taken s σ (rule_seen r) ls m.pairs)) ≤ suc (suc i) = omega (arith, r.alls.few) in
         sym (get_or_past (map facts (all_taken s σ (rule_seen r) ls m.pairs)) (suc (suc i)) [] b)
 
--- the labels over which a `giveall` gives are held
-pub held-over : (ps : List Pair) (tk : List Taken) (o : ℕ) → Held ps tk → all (λ n. is_some (read n ps)) (labels_over o tk) ≡ true
-held-over ps tk o h = go (o - 1) (map held tk) h
-  where
-    go : (i : ℕ) (ls : List (List ℕ)) → all (all (λ n. is_some (read n ps))) ls ≡ true → all (λ n. is_some (read n ps)) (get_or ls i []) ≡ true
-    go i [] k = refl
-    go zero (l ∷ ls) k = (and_parts (all (λ n. is_some (read n ps)) l) (all (all (λ n. is_some (read n ps))) ls) k).0
-    go (suc i) (l ∷ ls) k = go i ls (and_parts (all (λ n. is_some (read n ps)) l) (all (all (λ n. is_some (read n ps))) ls) k).1
-
 -- the body of a rule ------------------------------------------------------------------------------------------------
 
 flat_map_alike : {X Y : Type 0} (f g : X → List Y) (xs : List X) → ((x : X) → f x ≡ g x) → flat_map f xs ≡ flat_map g xs

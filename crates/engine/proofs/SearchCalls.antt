@@ -1,12 +1,11 @@
 -- The steps of the search as its functions take them.
-use Rattle.std.proofs.Common.{◌≡◌, ℕ, ◌+◌, ◌<◌, ◌≤◌, Bool, true, false, cond, ◌||◌, List, [], ◌∷◌, ◌++◌, length, get_or, set, take, Some, None, Option, sym, refl, ap, subst, ◌∙◌, arith, add-one, length-set}
-use Rattle.std.proofs.lemmas.List.{take_more_set, length-take-le}
-use Rattle.std.proofs.lemmas.Bool.{ne_eqb}
+use Rattle.std.proofs.Common.{◌≡◌, ℕ, ◌<◌, ◌≤◌, Bool, true, false, cond, List, [], ◌∷◌, ◌++◌, length, get_or, Some, None, Option, sym, refl, ap, subst, ◌∙◌, arith}
 use Rattle.std.specs.Bool.{then_some}
 use Rattle.facts.specs.System.{System}
 use Rattle.facts.specs.declared.fact_types.Fact.{Fact}
 use Rattle.rules.specs.declared.rule_types.Pattern.{Pattern}
 use Rattle.rules.specs.declared.rule_types.RuleRecord.{RuleRecord}
+use Rattle.lists.specs.declared.fixed_list_type.FixedList.{FixedList}
 use Rattle.lists.specs.Held.{held}
 use Rattle.lists.proofs.Held.{held-count}
 use Rattle.std.specs.List.{slice_get}
@@ -14,7 +13,6 @@ use Rattle.std.proofs.lemmas.Option.{slice_get_within, get_or_from_slice_get}
 use Rattle.rules.specs.Rules.{Rule, rule_seen, all}
 use Rattle.rules.specs.Closed.{heads_of, accepted, rule_verdict, every_word}
 use Rattle.rules.proofs.Records.{singles-seen, singles-count}
-use Rattle.stores.specs.Lists.{has}
 use Rattle.stores.specs.Store.{Pair, read, next_that}
 use Rattle.engine.specs.declared.search.Choice.{Choice}
 use Rattle.machine.specs.Fitting.{holds}
@@ -23,25 +21,16 @@ use Rattle.machine.specs.Machine.{chosen}
 use Rattle.engine.specs.Searching.{no_head, head_at, pairs_at, or_next, found_from, found_above, extended, IsExtended, IsFound, IsPartial, is_candidate, candidates_stand}
 use Rattle.engine.proofs.SearchOrder.{Rising}
 use Rattle.engine.proofs.SearchPartial.{labels-at, end-found, end-setting, placed_partial, placed-found, above-start, above-end, next-larger}
-use Rattle.engine.proofs.SearchSteps.{of_read, refused, taken, taken_partial, start-found, start_partial, unbound-chosen, lonely_chosen}
-
-pub extended-some : (ps : List Pair) (p : Pattern) (active : ℕ) (ls : List ℕ) (l : Letters) (n : ℕ) (f : Fact) (m : Letters) → (n ≡ active → ⊥) → false ≡ has n ls → Some f ≡ read n ps → bind_fact l p f ≡ Some m → extended ps p active ls l n ≡ Some m
-extended-some ps p active ls l n f m x y z e =
-    (λ i. cond (ne_eqb n active x i || sym y i) None (of_read l p (sym z i))) ∙ e
-
-pub longer : (o : Option Letters) (old : Choice) (at n : ℕ) (m : Letters) → o ≡ Some m → at < 4 → length old.labels ≡ 4 → IsExtended o old at n (Some (record { labels = set old.labels at n; letters = m }))
-longer o old at n m e h k =
-    subst (λ (x : Option Letters). IsExtended x old at n (Some (record { labels = set old.labels at n; letters = m }))) (sym e)
-    (refl, ap (λ (j : ℕ). take j (set old.labels at n)) (sym (add-one at)) ∙ take_more_set old.labels at n (omega arith), length-set old.labels at n ∙ k)
+use Rattle.engine.proofs.SearchSteps.{refused, taken, taken_partial, start-found, start_partial, unbound-chosen, lonely_chosen}
 
 -- what a longer choice is
-extended-parts : (o : Option Letters) (old : Choice) (at n : ℕ) (x : Choice) → IsExtended o old at n (Some x) → (o ≡ Some x.letters) × (take (at + 1) x.labels ≡ take at old.labels ++ (n ∷ []))
-extended-parts None old at n x h = elim h [ ]
-extended-parts (Some m) old at n x h = (ap Some (sym h.0), ap (λ (j : ℕ). take j x.labels) (add-one at) ∙ h.1)
+pub extended-parts : (o : Option Letters) (old : Choice) (n : ℕ) (x : Choice) → IsExtended o old n (Some x) → (o ≡ Some x.letters) × (held x.labels ≡ held old.labels ++ (n ∷ []))
+extended-parts None old n x h = elim h [ ]
+extended-parts (Some m) old n x h = (ap Some (sym h.0), h.1)
 
-extended-not : (o : Option Letters) (old : Choice) (at n : ℕ) → IsExtended o old at n None → o ≡ None
-extended-not None old at n h = refl
-extended-not (Some m) old at n h = elim h [ ]
+extended-not : (o : Option Letters) (old : Choice) (n : ℕ) → IsExtended o old n None → o ≡ None
+extended-not None old n h = refl
+extended-not (Some m) old n h = elim h [ ]
 
 or-found : (r : Rule) (o u v : Option (List Pair)) (x : Choice) → o ≡ or_next u v → IsFound r u (Some x) → IsFound r o (Some x)
 or-found r o None v x e h = elim h [ ]
@@ -51,24 +40,24 @@ or-passed : (r : Rule) (o u v : Option (List Pair)) → o ≡ or_next u v → Is
 or-passed r o None v e h = e
 or-passed r o (Some c) v e h = elim h [ ]
 
-module _ (s : System) (rr : RuleRecord) (place active : ℕ) (ps : List Pair) (choice : Choice) (at : ℕ) (w : IsPartial ps (rule_seen rr) place active (take at choice.labels) choice.letters) (low : at ≤ rr.singles.count) (long : length choice.labels ≡ 4) where
+module _ (s : System) (rr : RuleRecord) (place active : ℕ) (ps : List Pair) (choice : Choice) (w : IsPartial ps (rule_seen rr) place active (held choice.labels) choice.letters) (at : ℕ) (counted : at ≡ length (held choice.labels)) where
   abbrev r : Rule
   r = rule_seen rr
 
   abbrev begins : List ℕ
-  begins = take at choice.labels
+  begins = held choice.labels
 
   abbrev found_of : List ℕ → Option (List Pair)
   found_of = found_from s (rule_seen rr) place active ps
 
   abbrev found : Option (List Pair)
-  found = found_from s (rule_seen rr) place active ps (take at choice.labels)
+  found = found_from s (rule_seen rr) place active ps (held choice.labels)
 
   abbrev found_over : ℕ → Option (List Pair)
-  found_over = found_above s (rule_seen rr) place active ps (take at choice.labels)
+  found_over = found_above s (rule_seen rr) place active ps (held choice.labels)
 
   count : length begins ≡ at
-  count = length-take-le at choice.labels (omega (arith, rr.singles.few))
+  count = sym counted
 
   heads : heads_of r ≡ rr.singles.count
   heads = singles-count rr
@@ -76,15 +65,14 @@ module _ (s : System) (rr : RuleRecord) (place active : ℕ) (ps : List Pair) (c
   -- the end of the heads
   end-some : rr.singles.count ≤ at → true ≡ all (holds s (setting_in choice.letters) []) r.whens → IsFound r found (Some choice)
   end-some h e =
-      let q : length begins ≡ heads_of r = omega (arith, count, heads) in
-      let n : heads_of r ≡ at = omega (arith, count, heads) in
+      let q : length begins ≡ heads_of r = omega (arith, count, heads, w.short) in
       let f = end-found s r place active ps begins choice.letters w q ∙ ap (λ (b : Bool). cond b (Some (pairs_at ps begins)) None) (sym e) in
       subst (λ (o : Option (List Pair)). IsFound r o (Some choice)) (sym f)
-      (ap (λ (j : ℕ). take j choice.labels) n ∙ sym (labels-at ps begins), end-setting s r place active ps begins choice.letters w q)
+      (sym (labels-at ps begins), end-setting s r place active ps begins choice.letters w q)
 
   end-none : rr.singles.count ≤ at → false ≡ all (holds s (setting_in choice.letters) []) r.whens → IsFound r found None
   end-none h e =
-      let q : length begins ≡ heads_of r = omega (arith, count, heads) in
+      let q : length begins ≡ heads_of r = omega (arith, count, heads, w.short) in
       let f = end-found s r place active ps begins choice.letters w q ∙ ap (λ (b : Bool). cond b (Some (pairs_at ps begins)) None) (sym e) in
       subst (λ (o : Option (List Pair)). IsFound r o None) (sym f) tt
 
@@ -93,16 +81,13 @@ module _ (s : System) (rr : RuleRecord) (place active : ℕ) (ps : List Pair) (c
   end-answer h false e = end-none h e
 
   -- the place of the active label
-  module _ (e : at ≡ place) (head : Pattern) (there : slice_get (held rr.singles) at ≡ Some head) where
-    one-more : take (at + 1) (set choice.labels at active) ≡ begins ++ (active ∷ [])
-    one-more = take_more_set choice.labels at active (omega (arith, rr.singles.few, slice_get_within (held rr.singles) at head there, held-count rr.singles))
-
-    pub place_partial : IsPartial ps r place active (take (at + 1) (set choice.labels at active)) choice.letters
+  module _ (e : at ≡ place) (longer : FixedList ℕ 4) (one-more : held longer ≡ begins ++ (active ∷ [])) where
+    pub place_partial : IsPartial ps r place active (held longer) choice.letters
     place_partial =
         subst (λ (ls : List ℕ). IsPartial ps r place active ls choice.letters) (sym one-more)
         (placed_partial s r place active ps begins choice.letters w (count ∙ e))
 
-    pub place-found : Rising 0 ps → (x : Option Choice) → IsFound r (found_of (take (at + 1) (set choice.labels at active))) x → IsFound r found x
+    pub place-found : Rising 0 ps → (x : Option Choice) → IsFound r (found_of (held longer)) x → IsFound r found x
     place-found rise x f =
         let k = placed-found s r place active ps begins choice.letters w (count ∙ e) rise ∙ ap found_of (sym one-more) in
         subst (λ (o : Option (List Pair)). IsFound r o x) (sym k) f
@@ -139,37 +124,37 @@ module _ (s : System) (rr : RuleRecord) (place active : ℕ) (ps : List Pair) (c
         seen-extended : {y : Option Letters} → extended ps head active begins choice.letters n ≡ y → extended ps (head_at r (length begins)) active begins choice.letters n ≡ y
         seen-extended q = ap (λ (p : Pattern). extended ps p active begins choice.letters n) pattern ∙ q
 
-        pub loop_refused : IsExtended (extended ps head active begins choice.letters n) choice at n None →
+        pub loop_refused : IsExtended (extended ps head active begins choice.letters n) choice n None →
             found ≡ found_over above → found ≡ found_over n
         loop_refused x i =
             i ∙ refused s r place active ps begins choice.letters w room rise apart above n (seen-next ∙ e)
-            (seen-extended (extended-not (extended ps head active begins choice.letters n) choice at n x))
+            (seen-extended (extended-not (extended ps head active begins choice.letters n) choice n x))
 
-        module _ (m : Choice) (x : IsExtended (extended ps head active begins choice.letters n) choice at n (Some m)) where
-          parts : (extended ps head active begins choice.letters n ≡ Some m.letters) × (take (at + 1) m.labels ≡ begins ++ (n ∷ []))
-          parts = extended-parts (extended ps head active begins choice.letters n) choice at n m x
+        module _ (m : Choice) (x : IsExtended (extended ps head active begins choice.letters n) choice n (Some m)) where
+          parts : (extended ps head active begins choice.letters n ≡ Some m.letters) × (held m.labels ≡ begins ++ (n ∷ []))
+          parts = extended-parts (extended ps head active begins choice.letters n) choice n m x
 
-          pub loop_partial : IsPartial ps r place active (take (at + 1) m.labels) m.letters
+          pub loop_partial : IsPartial ps r place active (held m.labels) m.letters
           loop_partial =
               subst (λ (ls : List ℕ). IsPartial ps r place active ls m.letters) (sym parts.1)
               (taken_partial s r place active ps begins choice.letters w room rise apart above n (seen-next ∙ e) m.letters (seen-extended parts.0))
 
           value : found ≡ found_over above →
-              found ≡ or_next (found_of (take (at + 1) m.labels)) (found_over n)
+              found ≡ or_next (found_of (held m.labels)) (found_over n)
           value i =
               i ∙ (taken s r place active ps begins choice.letters w room rise apart above n (seen-next ∙ e)
               ∙ ap (λ (ls : List ℕ). or_next (found_of ls) (found_over n)) (sym parts.1))
 
           pub loop_found : (y : Choice) → found ≡ found_over above →
-              IsFound r (found_of (take (at + 1) m.labels)) (Some y) → IsFound r found (Some y)
+              IsFound r (found_of (held m.labels)) (Some y) → IsFound r found (Some y)
           loop_found y i f =
-              or-found r found (found_of (take (at + 1) m.labels))
+              or-found r found (found_of (held m.labels))
               (found_over n) y (value i) f
 
           pub loop_passed : found ≡ found_over above →
-              IsFound r (found_of (take (at + 1) m.labels)) None → found ≡ found_over n
+              IsFound r (found_of (held m.labels)) None → found ≡ found_over n
           loop_passed i f =
-              or-passed r found (found_of (take (at + 1) m.labels))
+              or-passed r found (found_of (held m.labels))
               (found_over n) (value i) f
 
 -- the whole search ------------------------------------------------------------------------------------------------------
@@ -201,5 +186,6 @@ module _ (s : System) (rr : RuleRecord) (place active : ℕ) (ps : List Pair) (f
     pub search_partial : IsPartial ps rule place active [] m
     search_partial = start_partial s rule place active ps rise place_in stands f a m first-bound
 
-  pub search_found : (x : Option Choice) → IsFound rule (found_from s rule place active ps []) x → IsFound rule (chosen s rule place active ps) x
-  search_found x k = subst (λ (o : Option (List Pair)). IsFound rule o x) (start-found s rule place active ps rise) k
+  pub search_found : (ls : List ℕ) → ls ≡ [] → (x : Option Choice) → IsFound rule (found_from s rule place active ps ls) x → IsFound rule (chosen s rule place active ps) x
+  search_found ls e x k =
+      subst (λ (o : Option (List Pair)). IsFound rule o x) (ap (found_from s rule place active ps) e ∙ start-found s rule place active ps rise) k

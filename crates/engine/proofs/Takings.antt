@@ -6,7 +6,7 @@ use Rattle.std.proofs.lemmas.Option.{slice_get_within, get_or_from_slice_get}
 use Rattle.std.proofs.lemmas.List.Sums.{sum_by-cons}
 use Rattle.lists.specs.Held.{held}
 use Rattle.lists.proofs.Held.{held-count}
-use Rattle.std.proofs.lemmas.List.{take-map, get_or-map, length-append, length-map, length_push, length-drop, append-nil, get_or_past}
+use Rattle.std.proofs.lemmas.List.{take-map, get_or-map, length-append, length-map, length_push, length-drop, append-nil}
 use Rattle.std.proofs.lemmas.Bool.Decides.{nat_tests}
 use Rattle.facts.specs.System.{System}
 use Rattle.facts.specs.declared.fact_types.Fact.{Fact}
@@ -216,9 +216,6 @@ took_from s σ o ls ps i a xs h e =
     let same : (f : Fact) → takes s σ (map all_seen (take i (held o.alls))) (all_seen a) f ≡ takes_at s σ r.alls i f =
     λ f. (λ j. takes s σ (sym earlier j) (sym here j) f) ∙ sym (takes-at s σ r.alls i (all_seen a) n f) in
     e ∙ ap labels ((λ j. filter (λ p. not (has (label p) ls) && same (fact p) j) ps) ∙ sym (all_taken-at s σ r ls ps i))
-
-pub took_none : (xs : List ℕ) (ts : List (List Pair)) (i : ℕ) → xs ≡ [] → length ts ≤ i → xs ≡ labels (get_or ts i [])
-took_none xs ts i c h = c ∙ ap labels (sym (get_or_past ts i [] h))
 
 -- what all heads took, in one list
 joined : {X Y : Type 0} (f : X → List Y) (xs : List X) → flat_map f xs ≡ flat_map (λ ys. ys) (map f xs)

@@ -36,11 +36,11 @@ abbrev pub choice_in : Option (List Pair) → List Pair
 choice_in o = unwrap_or o []
 
 -- the labels of all facts that an application uses, and those of the facts that leave
-abbrev pub used_labels : Rule → Choice → List Taken → List ℕ
-used_labels r x t = take (heads_of r) x.labels ++ flat_map held t
+abbrev pub used_labels : Choice → List Taken → List ℕ
+used_labels x t = held x.labels ++ flat_map held t
 
 abbrev pub leaving_labels : Rule → Choice → List Taken → List ℕ
-leaving_labels r x t = gone_labels r (take (heads_of r) x.labels) (map held t)
+leaving_labels r x t = gone_labels r (held x.labels) (map held t)
 
 -- the facts that a body has, where it has all that it counts
 abbrev pub facts_in : Body → List Fact

@@ -1,5 +1,6 @@
 -- What the inner functions of the search answer. No contract of a public function cites this.
 use Rattle.std.specs.Prelude.{◌≡◌, ℕ, ◌-◌, ◌≤◌, ◌<◌, zero, suc, nat_lt, Bool, true, false, cond, ◌&&◌, ◌||◌, List, [], ◌∷◌, ◌++◌, map, take, length, ℤ, Some, None, Option, ◌==◌, slice_index, slice_index_or, unwrap_or, is_some}
+use Rattle.lists.specs.Held.{held}
 use Rattle.facts.specs.System.{System}
 use Rattle.facts.specs.declared.fact_types.Fact.{Fact}
 use Rattle.rules.specs.declared.rule_types.Argument.{Argument}
@@ -81,7 +82,7 @@ abbrev pub IsFound : Rule → Option (List Pair) → Option Choice → Type 0
 IsFound r None None = Unit {0}
 IsFound r None (Some x) = ⊥
 IsFound r (Some c) None = ⊥
-IsFound r (Some c) (Some x) = (take (heads_of r) x.labels ≡ labels c) × (setting_in x.letters ≡ setting_of r (facts c))
+IsFound r (Some c) (Some x) = (held x.labels ≡ labels c) × (setting_in x.letters ≡ setting_of r (facts c))
 
 -- a setting gives the letters that are bound their words
 abbrev pub Agrees : Setting → Letters → Type 0
@@ -120,11 +121,11 @@ extended ps p active ls l n =
     cond (n == active || has n ls) None (elim (read n ps) [ None ↦ None | Some f ↦ bind_fact l p f ])
 
 -- what `extended` answers for that: the choice with the label behind the labels chosen so far, and these letters
-abbrev pub IsExtended : Option Letters → Choice → ℕ → ℕ → Option Choice → Type 0
-IsExtended None old at n None = Unit {0}
-IsExtended None old at n (Some x) = ⊥
-IsExtended (Some l) old at n None = ⊥
-IsExtended (Some l) old at n (Some x) = (x.letters ≡ l) × (take (suc at) x.labels ≡ take at old.labels ++ (n ∷ [])) × (length x.labels ≡ 4)
+abbrev pub IsExtended : Option Letters → Choice → ℕ → Option Choice → Type 0
+IsExtended None old n None = Unit {0}
+IsExtended None old n (Some x) = ⊥
+IsExtended (Some l) old n None = ⊥
+IsExtended (Some l) old n (Some x) = (x.letters ≡ l) × (held x.labels ≡ held old.labels ++ (n ∷ []))
 
 -- every head but the one at a place, of heads of which the first has this index, has a fact that may fit it
 abbrev pub candidates_stand : List Pair → Letters → ℕ → ℕ → List Pattern → Bool

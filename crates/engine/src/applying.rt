@@ -39,7 +39,7 @@ impl Found<'_> {
     // The labels of the facts of the single heads, and then those of what the all heads took, begin the list.
     fn list_labels(self, list: &mut [u32], taken: &AllTaken)
         requires room { self.rule.now.singles.count + length (flat_map held taken.now) ≤ length list.old }
-        ensures { list.new ≡ listed (take self.entry.rule.now.singles.count self.entry.choice.now.labels ++ flat_map held taken.now) list.old }
+        ensures { list.new ≡ listed (held self.entry.choice.now.labels ++ flat_map held taken.now) list.old }
     {
         let mut end = write_labels(list, 0, self.chosen());
         for labels in taken {
@@ -49,7 +49,7 @@ impl Found<'_> {
 
     // The facts of the `drop` heads, and those that the `dropall` heads took, leave the store.
     fn remove_gone<S: Store>(self, store: &mut S, taken: &AllTaken)
-        ensures { S.meaning store.new ≡ with_pairs (S.meaning store.old) (without (gone_labels (rule_seen self.entry.rule.now) (take self.entry.rule.now.singles.count self.entry.choice.now.labels) (map held taken.now)) (S.meaning store.old).pairs) }
+        ensures { S.meaning store.new ≡ with_pairs (S.meaning store.old) (without (gone_labels (rule_seen self.entry.rule.now) (held self.entry.choice.now.labels) (map held taken.now)) (S.meaning store.old).pairs) }
     {
         let alls = self.rule.alls.as_slice();
         remove_all(store, self.dropped());
@@ -127,12 +127,13 @@ impl<W: Words + Drop, S: Store + Drop> Job<W, S> {
     // By hand: `rule` is asked as in `weigh`.
     fn carry_out(&mut self, place: HeadPlace, choice: &Choice, goes: bool, list: &mut [u32])
         requires rule { place.rule < length (closed_rules self.old.set) }
+        requires whole { length (held choice.now.labels) ≡ heads_of (rule_at (closed_rules self.old.set) place) }
         requires wide { heads_of (rule_at (closed_rules self.old.set) place) + length (flat_map held self.old.scratch.taken) ≤ length list.old }
         requires added { self.old.scratch.body.count ≡ length (facts_in self.old.scratch.body) }
         requires kinds { all has_kind (facts_in self.old.scratch.body) ≡ true }
         requires room { shortage (frame_of W.system S.meaning self.old) (facts_in self.old.scratch.body) (left_by (leaving_labels (rule_at (closed_rules self.old.set) place) choice.now self.old.scratch.taken) goes (state_of S.meaning self.old)) ≡ None }
         ensures state { state_of S.meaning self.new ≡ bring (closed_rules self.old.set) (facts_in self.old.scratch.body) (left_by (leaving_labels (rule_at (closed_rules self.old.set) place) choice.now self.old.scratch.taken) goes (state_of S.meaning self.old)) }
-        ensures list { list.new ≡ listed (used_labels (rule_at (closed_rules self.old.set) place) choice.now self.old.scratch.taken) list.old }
+        ensures list { list.new ≡ listed (used_labels choice.now self.old.scratch.taken) list.old }
         ensures frame { frame_of W.system S.meaning self.new ≡ frame_of W.system S.meaning self.old }
     {
         let rule = rule_of(&self.set, place);
@@ -141,11 +142,10 @@ impl<W: Words + Drop, S: Store + Drop> Job<W, S> {
         found.remove_gone(&mut self.store, &self.scratch.taken);
         leave_top(&mut self.goals, goes);
         let count = self.scratch.body.count;
-        let first = self.next;
-        self.next = bring_in::<W, S>(
+        bring_in::<W, S>(
             &self.set,
             &mut self.store,
-            first,
+            &mut self.next,
             &mut self.goals,
             &self.scratch.body.facts[..count],
         );

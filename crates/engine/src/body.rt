@@ -1,5 +1,6 @@
 //! The body of a rule: the facts that it gives for what its all heads took.
-ghost use Rattle.std.specs.Prelude.{◌≡◌, ◌+◌, ◌*◌, ◌≤◌, ◌<◌, [], map, flat_map, length, take, true, is_some};
+ghost use Rattle.std.specs.Prelude.{◌≡◌, ◌+◌, ◌*◌, ◌≤◌, ◌<◌, [], map, flat_map, length, true, is_some};
+ghost use Rattle.lists.specs.Held.{held};
 ghost use Rattle.rules.specs.Rules.{all, rule_seen};
 ghost use Rattle.stores.specs.Store.{facts, read};
 ghost use Rattle.machine.specs.Fitting.{given, all_values, body};
@@ -103,8 +104,8 @@ impl Found<'_> {
         taken: &AllTaken,
         made: &mut Body,
     ) -> Option<()>
-        requires { Took (all_taken W.system (setting_in self.choice.now.letters) (rule_seen self.rule.now) (take self.rule.now.singles.count self.choice.now.labels) (S.meaning store.now).pairs) taken.now }
-        ensures { IsBody (body W.system (setting_in self.entry.choice.now.letters) (rule_seen self.entry.rule.now) (map facts (all_taken W.system (setting_in self.entry.choice.now.letters) (rule_seen self.entry.rule.now) (take self.entry.rule.now.singles.count self.entry.choice.now.labels) (S.meaning store.now).pairs))) made.new result }
+        requires { Took (all_taken W.system (setting_in self.choice.now.letters) (rule_seen self.rule.now) (held self.choice.now.labels) (S.meaning store.now).pairs) taken.now }
+        ensures { IsBody (body W.system (setting_in self.entry.choice.now.letters) (rule_seen self.entry.rule.now) (map facts (all_taken W.system (setting_in self.entry.choice.now.letters) (rule_seen self.entry.rule.now) (held self.entry.choice.now.labels) (S.meaning store.now).pairs))) made.new result }
     {
         let letters = &self.choice.letters;
         made.count = 0;

@@ -16,45 +16,43 @@ use machine::Goal;
 use rules::ClosedSet;
 use stores::Store;
 
-// The fact is stored under a label. There is room for it.
+// The fact is stored under the next label. There is room for it.
 // By hand, here and below: `post` takes facts of any kind and refuses some; a type of facts of the 64 kinds would be a copy of them.
-// It takes the store alone: the facts that an application brings stand in the job, so `bring_in` is lent the job's other parts.
-fn put_next<S: Store>(store: &mut S, label: u32, fact: Fact)
+// It takes the store and the next label alone: the facts that an application brings stand in the job, so `bring_in` is lent the job's other parts.
+fn put_next<S: Store>(store: &mut S, next: &mut u32, fact: Fact)
     requires kind { has_kind fact ≡ true }
     requires room { length (S.meaning store.old).pairs < (S.meaning store.old).capacity }
-    requires low { 1 ≤ label }
-    requires high { label ≤ last_label }
-    ensures { S.meaning store.new ≡ with_pairs (S.meaning store.old) (placed label fact (S.meaning store.old).pairs) }
+    requires low { 1 ≤ next.old }
+    requires high { next.old ≤ last_label }
+    ensures next { next.new ≡ suc next.old }
+    ensures store { S.meaning store.new ≡ with_pairs (S.meaning store.old) (placed next.old fact (S.meaning store.old).pairs) }
 {
     // Never refused, by what is required.
-    let _stored = store.put(label, fact);
+    let _stored = store.put(*next, fact);
+    *next += 1;
 }
 
-// Those that are stored at once get the labels from a first one on. Answers the label after theirs.
-// By hand, in this file: what is asked of room and labels ties two of what is lent, the store, the set, the facts, a label and the goals. A
-// struct of what is lent would be made for each call, and ask the same where it is made.
+// Those that are stored at once get the labels from the next one on.
+// By hand, in this file: each clause on room and labels ties several of what is lent, the store, the set, the facts, a label and the goals,
+// so no one's type can have it. That the next label is at least 1 is in the job's type, and asked where the label is lent alone.
 fn store_watched<W: Words, S: Store>(
     set: &ClosedSet<W>,
     store: &mut S,
-    first: u32,
+    next: &mut u32,
     facts: &[Fact],
-) -> u32
-    requires low { 1 ≤ first }
+)
+    requires low { 1 ≤ next.old }
     requires kinds { all has_kind facts.now ≡ true }
     requires room { length (S.meaning store.old).pairs + length (seen (closed_rules set.now) facts.now) ≤ (S.meaning store.old).capacity }
-    requires labels { first + length (seen (closed_rules set.now) facts.now) ≤ suc last_label }
-    ensures next { result ≡ first + length (seen (closed_rules set.now) facts.now) }
-    ensures store { S.meaning store.new ≡ with_pairs (S.meaning store.old) (placed_all (numbered first (seen (closed_rules set.now) facts.now)) (S.meaning store.old).pairs) }
+    requires labels { next.old + length (seen (closed_rules set.now) facts.now) ≤ suc last_label }
+    ensures next { next.new ≡ next.old + length (seen (closed_rules set.now) facts.now) }
+    ensures store { S.meaning store.new ≡ with_pairs (S.meaning store.old) (placed_all (numbered next.old (seen (closed_rules set.now) facts.now)) (S.meaning store.old).pairs) }
 {
-    // By hand: the label after theirs is answered, which would be counted beside a `zip` of labels and facts too.
-    let mut next = first;
     for fact in facts {
         if set.watches(fact) {
             put_next(store, next, *fact);
-            next += 1;
         }
     }
-    next
 }
 
 // The labels from a first one on, up to one, become goals, the first uppermost.
@@ -82,27 +80,27 @@ fn push_waits<W: Words>(set: &ClosedSet<W>, goals: &mut Stack, facts: &[Fact])
     }
 }
 
-/// The facts are brought in, where the next label is a first one. There is room for them. Answers the next label then.
+/// The facts are brought in. There is room for them.
 pub(crate) fn bring_in<W: Words, S: Store>(
     set: &ClosedSet<W>,
     store: &mut S,
-    first: u32,
+    next: &mut u32,
     goals: &mut Stack,
     facts: &[Fact],
-) -> u32
-    requires low { 1 ≤ first }
+)
+    requires low { 1 ≤ next.old }
     requires kinds { all has_kind facts.now ≡ true }
     requires goals { length goals.old + length facts.now ≤ 512 }
     requires room { length (S.meaning store.old).pairs + length (seen (closed_rules set.now) facts.now) ≤ (S.meaning store.old).capacity }
-    requires labels { first + length (seen (closed_rules set.now) facts.now) ≤ suc last_label }
-    ensures state { state_on (S.meaning store.new) result goals.new ≡ bring (closed_rules set.now) facts.now (state_on (S.meaning store.old) first goals.old) }
+    requires labels { next.old + length (seen (closed_rules set.now) facts.now) ≤ suc last_label }
+    ensures state { state_on (S.meaning store.new) next.new goals.new ≡ bring (closed_rules set.now) facts.now (state_on (S.meaning store.old) next.old goals.old) }
     ensures capacity { (S.meaning store.new).capacity ≡ (S.meaning store.old).capacity }
-    ensures low { 1 ≤ result }
+    ensures low { 1 ≤ next.new }
 {
-    let next = store_watched::<W, S>(set, store, first, facts);
-    push_looks(goals, first, next);
+    let first = *next;
+    store_watched::<W, S>(set, store, next, facts);
+    push_looks(goals, first, *next);
     push_waits::<W>(set, goals, facts);
-    next
 }
 
 impl<W: Words + Drop, S: Store + Drop> Job<W, S> {
@@ -124,7 +122,6 @@ impl<W: Words + Drop, S: Store + Drop> Job<W, S> {
         ensures next { self.new.next ≡ suc self.old.next }
         ensures store { S.meaning self.new.store ≡ with_pairs (S.meaning self.old.store) (placed self.old.next fact (S.meaning self.old.store).pairs) }
     {
-        put_next(&mut self.store, self.next, fact);
-        self.next += 1;
+        put_next(&mut self.store, &mut self.next, fact);
     }
 }

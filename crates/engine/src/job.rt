@@ -82,8 +82,13 @@ impl<W: Words + Drop, S: Store + Drop> Job<W, S> {
     {
         judge_facts::<W>(facts)?;
         self.room_for(facts)?;
-        let first = self.next;
-        self.next = bring_in::<W, S>(&self.set, &mut self.store, first, &mut self.goals, facts);
+        bring_in::<W, S>(
+            &self.set,
+            &mut self.store,
+            &mut self.next,
+            &mut self.goals,
+            facts,
+        );
         Ok(())
     }
 

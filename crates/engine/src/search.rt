@@ -1,5 +1,5 @@
 //! The search for the lowest choice of facts that makes a rule ready, with the active fact at its place.
-ghost use Rattle.std.specs.Prelude.{◌≡◌, ◌<◌, ◌≤◌, take, true, Some};
+ghost use Rattle.std.specs.Prelude.{◌≡◌, ◌<◌, length, true, Some};
 ghost use Rattle.lists.specs.Held.{held};
 ghost use Rattle.rules.specs.Rules.{rule_seen};
 ghost use Rattle.rules.specs.Closed.{accepted, rule_verdict, every_word};
@@ -11,14 +11,14 @@ ghost use Rattle.engine.specs.Searching.{first_word, is_candidate, IsFound, exte
 use crate::letters::{LETTER_COUNT, Letters, bind_fact};
 use crate::terms::conditions_hold;
 use facts::{Fact, Words};
+use lists::FixedList;
 use rules::{Argument, Pattern, RuleRecord, SINGLES};
 use stores::Store;
 
 /// Labels chosen for the first single heads of a rule, and the letters that their facts and the active fact bind.
 #[derive(Clone, Copy)]
 pub(crate) struct Choice {
-    // By hand: a label is chosen at each head's number in turn, which is needed beside a `FixedList` too.
-    pub(crate) labels: [u32; SINGLES],
+    pub(crate) labels: FixedList<u32, SINGLES>,
     pub(crate) letters: Letters,
 }
 
@@ -65,39 +65,40 @@ struct Searched<'a, S> {
 
 impl<S: Store> Searched<'_, S> {
     /// The choice with one label more, where that is not chosen yet and its fact fits the head.
-    fn extended(&self, head: &Pattern, choice: &Choice, at: usize, label: u32) -> Option<Choice>
-        requires { at < 4 }
-        ensures { IsExtended (extended (S.meaning self.now.store.now).pairs head.now self.now.active (take at choice.now.labels) choice.now.letters label) choice.now at label result }
+    fn extended(&self, head: &Pattern, choice: &Choice, label: u32) -> Option<Choice>
+        requires { length (held choice.now.labels) < 4 }
+        ensures { IsExtended (extended (S.meaning self.now.store.now).pairs head.now self.now.active (held choice.now.labels) choice.now.letters label) choice.now label result }
     {
-        if label == self.active || is_among(label, &choice.labels[..at]) {
+        if label == self.active || is_among(label, choice.labels.as_slice()) {
             return None;
         }
         let fact = self.store.read(label)?;
-        let letters = bind_fact(choice.letters, head, &fact)?;
+        let mut letters = choice.letters;
+        bind_fact(&mut letters, head, &fact)?;
         let mut labels = choice.labels;
-        labels[at] = label;
+        labels.push(label);
         Some(Choice { labels, letters })
     }
 
     /// The lowest choice that begins with the labels chosen so far and makes the rule ready.
-    fn search_from<W: Words>(&self, choice: &Choice, at: usize) -> Option<Choice>
-        requires partial { IsPartial (S.meaning self.now.store.now).pairs (rule_seen self.now.rule.now) self.now.place self.now.active (take at choice.now.labels) choice.now.letters }
-        requires at_head { at ≤ self.now.rule.now.singles.count }
-        ensures { IsFound (rule_seen self.now.rule.now) (found_from W.system (rule_seen self.now.rule.now) self.now.place self.now.active (S.meaning self.now.store.now).pairs (take at choice.now.labels)) result }
+    fn search_from<W: Words>(&self, choice: &Choice) -> Option<Choice>
+        requires { IsPartial (S.meaning self.now.store.now).pairs (rule_seen self.now.rule.now) self.now.place self.now.active (held choice.now.labels) choice.now.letters }
+        ensures { IsFound (rule_seen self.now.rule.now) (found_from W.system (rule_seen self.now.rule.now) self.now.place self.now.active (S.meaning self.now.store.now).pairs (held choice.now.labels)) result }
     {
+        let at = choice.labels.len();
         let Some(head) = self.rule.singles.as_slice().get(at) else {
             return conditions_hold::<W>(&choice.letters, self.rule).then_some(*choice);
         };
         if at == self.place {
             let mut longer = *choice;
-            longer.labels[at] = self.active;
-            return self.search_from::<W>(&longer, at + 1);
+            longer.labels.push(self.active);
+            return self.search_from::<W>(&longer);
         }
         // By hand: a store lends no iterator, and answers each label from the one before it.
         let mut above = 0;
         while let Some(label) = next_candidate(self.store, &choice.letters, head, above) {
-            if let Some(longer) = self.extended(head, choice, at, label) {
-                if let Some(found) = self.search_from::<W>(&longer, at + 1) {
+            if let Some(longer) = self.extended(head, choice, label) {
+                if let Some(found) = self.search_from::<W>(&longer) {
                     return Some(found);
                 }
             }
@@ -128,19 +129,21 @@ pub(crate) fn search<W: Words, S: Store>(
     requires held { read active (S.meaning store.now).pairs ≡ Some fact.now }
     ensures { IsFound (rule_seen rule.now) (chosen W.system (rule_seen rule.now) place active (S.meaning store.now).pairs) result }
 {
-    let letters = bind_fact([None; LETTER_COUNT], &rule.singles.as_slice()[place], fact)?;
+    let mut letters = [None; LETTER_COUNT];
+    bind_fact(&mut letters, &rule.singles.as_slice()[place], fact)?;
     let searched = Searched {
         store,
         rule,
         place,
         active,
     };
-    if !searched.all_have_candidates(&letters) {
+    // Not asked of a rule with at most one head besides the active fact's: the search asks for that head's first candidate itself.
+    if rule.singles.len() > 2 && !searched.all_have_candidates(&letters) {
         return None;
     }
     let none = Choice {
-        labels: [0; SINGLES],
+        labels: FixedList::new(0),
         letters,
     };
-    searched.search_from::<W>(&none, 0)
+    searched.search_from::<W>(&none)
 }

@@ -1,5 +1,5 @@
 //! What the all heads of a rule take of the stored facts.
-ghost use Rattle.std.specs.Prelude.{◌≡◌, [], map, take, slice_index_or};
+ghost use Rattle.std.specs.Prelude.{◌≡◌, [], map, slice_index_or};
 ghost use Rattle.lists.specs.Held.{held};
 ghost use Rattle.rules.specs.Rules.{rule_seen, all_seen};
 ghost use Rattle.stores.specs.Store.{labels};
@@ -68,7 +68,7 @@ impl Taker<'_> {
 impl Found<'_> {
     /// What the all head at an index takes, which is nothing where there is none.
     fn take_at<W: Words, S: Store>(self, store: &S, index: usize, taken: &mut Taken)
-        ensures { held taken.new ≡ labels (slice_index_or (all_taken W.system (setting_in self.entry.choice.now.letters) (rule_seen self.entry.rule.now) (take self.entry.rule.now.singles.count self.entry.choice.now.labels) (S.meaning store.now).pairs) index []) }
+        ensures { held taken.new ≡ labels (slice_index_or (all_taken W.system (setting_in self.entry.choice.now.letters) (rule_seen self.entry.rule.now) (held self.entry.choice.now.labels) (S.meaning store.now).pairs) index []) }
     {
         let alls = self.rule.alls.as_slice();
         match alls.get(index) {
@@ -87,7 +87,7 @@ impl Found<'_> {
 
     /// What all heads of the rule take of the stored facts that are not chosen for a single head.
     pub(crate) fn take_all<W: Words, S: Store>(self, store: &S, taken: &mut AllTaken)
-        ensures { Took (all_taken W.system (setting_in self.entry.choice.now.letters) (rule_seen self.entry.rule.now) (take self.entry.rule.now.singles.count self.entry.choice.now.labels) (S.meaning store.now).pairs) taken.new }
+        ensures { Took (all_taken W.system (setting_in self.entry.choice.now.letters) (rule_seen self.entry.rule.now) (held self.entry.choice.now.labels) (S.meaning store.now).pairs) taken.new }
     {
         for (index, labels) in taken.iter_mut().enumerate() {
             self.take_at::<W, S>(store, index, labels);

@@ -1,9 +1,7 @@
 -- The files of the examples come to what is said of them: by computing.
-use Rattle.std.proofs.Common.{◌≡◌, ℕ, List, Some, Ok, refl}
-use Rattle.facts.specs.Lengths.{lengths}
-use Rattle.facts_file.specs.Facts.{fact_count, facts_file, facts_before}
+use Rattle.std.proofs.Common.{refl}
 use Rattle.rows.specs.Csv.{read_row, rows}
-use Rattle.facts_file.specs.FactExamples.{looped_line, looped_line_file, FilesOfFacts}
+use Rattle.facts_file.specs.FactExamples.{FilesOfFacts}
 
 pub files_of_facts : FilesOfFacts
 unfolding read_row rows
@@ -29,13 +27,3 @@ files_of_facts =
       a_quoted_crlf = refl;
       row_by_row = refl;
     }
-
--- the looped line, as the loader answers it
-module _ (bs : List ℕ) (is : bs ≡ looped_line_file) where
-  pub looped-count : fact_count (facts_file lengths.valid (Some bs)) ≡ Ok 3
-  unfolding read_row rows
-  looped-count = rw is
-
-  pub looped-facts : facts_before lengths.valid (Some bs) ≡ looped_line
-  unfolding read_row rows
-  looped-facts = rw is

@@ -26,13 +26,6 @@ prefixed-one : (ws : List ℤ) (w : ℤ) (r : Outcome (List ℤ)) → prefixed w
 prefixed-one ws w (Ok xs) = ap (λ (x : List ℤ). Ok x) (sym (append_assoc ws (w ∷ []) xs))
 prefixed-one ws w (Err e) = refl
 
-pub words-none : (valid : ℤ → Bool) (row : ℕ) (bs : List ℕ) → words_at valid row 2 3 bs ≡ prefixed [] (words_at valid row 2 3 bs)
-words-none valid row bs = go (words_at valid row 2 3 bs)
-  where
-    go : (r : Outcome (List ℤ)) → r ≡ prefixed [] r
-    go (Ok xs) = refl
-    go (Err e) = refl
-
 module _ (valid : ℤ → Bool) (row : ℕ) (whole : Outcome (List ℤ)) (ws : List ℤ) (i : ℕ) (few : i < 3) (bs : List ℕ) (inv : whole ≡ prefixed ws (words_at valid row (i + 2) (3 - i) bs)) where
   next_word : whole ≡ prefixed ws (word_then valid row (i + 2) (words_at valid row (suc (i + 2)) (3 - (i + 1))) (read_separated bs))
   unfolding words_at

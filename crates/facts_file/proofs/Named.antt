@@ -1,5 +1,6 @@
 -- What a refusal of facts names.
 use Rattle.std.proofs.Common.{◌≡◌, ℕ, suc, ◌+◌, ◌≤◌, Bool, true, false, cond, eqb, ltb, List, [], ◌∷◌, length, ℤ, pos, negsuc, Some, None, Ok, Err, Option, sym, refl, subst, arith}
+use Rattle.std.specs.Result.{result_and}
 use Rattle.std.proofs.lemmas.Bool.{or_left, eqb-true}
 use Rattle.facts.specs.declared.fact_types.Fact.{Fact}
 use Rattle.rows.specs.Csv.{Part, content, Row, fields, malformed, rows}
@@ -7,7 +8,7 @@ use Rattle.rows.specs.Numbers.{number}
 use Rattle.rows.specs.Refusals.{Outcome, refuse, most_bytes, names_field}
 use Rattle.facts_file.specs.FactRefusals.{facts_refusal, Named}
 use Rattle.rows.proofs.Refused.{refused_bind, refused_cond, within}
-use Rattle.facts_file.specs.Facts.{words, kinds, most_facts, fact_kind, fact_word, fact_words, fact_of, fact_row, fact_rows, fact_count, facts_file}
+use Rattle.facts_file.specs.Facts.{words, kinds, most_facts, fact_kind, fact_word, fact_words, fact_of, fact_row, fact_rows, facts_file}
 use Rattle.rows.specs.declared.refusal_types.Layer.TheVariants.{Reader, Job}
 
 word-named : (valid : ℤ → Bool) (row field : ℕ) (o : Option ℤ) → 1 ≤ field → field ≤ 4 → Named (fact_word valid row field o)
@@ -43,13 +44,10 @@ facts-named valid row (l ∷ ls) =
     refused_bind facts_refusal (fact_row valid row l) _ (fact-named valid row l)
     (λ f. refused_bind facts_refusal (fact_rows valid (suc row) ls) _ (facts-named valid (suc row) ls) (λ fs. tt))
 
-count-named : (r : Outcome (List Fact)) → Named r → Named (fact_count r)
-count-named (Ok fs) h = tt
-count-named (Err e) h = h
-
 file-named : (valid : ℤ → Bool) (file : Option (List ℕ)) → Named (facts_file valid file)
 file-named valid None = refl
 file-named valid (Some bs) = refused_cond facts_refusal (ltb most_bytes (length bs)) (refuse 7 0 0 Reader) (fact_rows valid 1 (rows bs)) refl (facts-named valid 1 (rows bs))
 
-pub answer-named : (valid : ℤ → Bool) (file : Option (List ℕ)) (r : Outcome ℕ) → r ≡ fact_count (facts_file valid file) → Named r
-answer-named valid file r e = subst (λ (x : Outcome ℕ). Named x) (sym e) (count-named (facts_file valid file) (file-named valid file))
+pub answer-named : (valid : ℤ → Bool) (file : Option (List ℕ)) (r : Outcome (Unit {0})) (facts : List Fact) → result_and r (Ok facts) ≡ facts_file valid file → Named r
+answer-named valid file (Ok u) facts h = tt
+answer-named valid file (Err e) facts h = subst (λ (x : Outcome (List Fact)). Named x) (sym h) (file-named valid file)

@@ -1,5 +1,5 @@
 -- facts.csv: from its bytes to the facts or the refusal. Each row is checked for 7, then 11, then its fields from left to right.
-use Rattle.std.specs.Prelude.{◌≡◌, ℕ, suc, ◌+◌, ◌<◌, ◌≤◌, Bool, true, cond, List, [], ◌∷◌, ◌++◌, length, take, drop, ℤ, pos, negsuc, Some, None, Ok, Err, Option, ◌==◌, nat_lt}
+use Rattle.std.specs.Prelude.{◌≡◌, ℕ, suc, ◌+◌, ◌<◌, ◌≤◌, Bool, true, cond, List, [], ◌∷◌, length, ℤ, pos, negsuc, Some, None, Ok, Err, Option, ◌==◌, nat_lt}
 use Rattle.facts.specs.declared.fact_types.Fact.{Fact}
 use Rattle.rows.specs.Csv.{Part, content, Row, fields, malformed, rows, Written}
 use Rattle.rows.specs.Numbers.{number, Decimal}
@@ -63,11 +63,6 @@ abbrev pub facts_file : (ℤ → Bool) → Option (List ℕ) → Outcome (List F
 facts_file valid None = refuse 7 0 0 Reader
 facts_file valid (Some bs) = facts_of valid bs
 
--- how many facts were read
-abbrev pub fact_count : Outcome (List Fact) → Outcome ℕ
-fact_count (Ok fs) = Ok (length fs)
-fact_count (Err e) = Err e
-
 -- a fact that was read, before those of the rows that follow; none where the row is refused
 abbrev pub kept : Outcome Fact → List Fact → List Fact
 kept (Ok f) fs = f ∷ fs
@@ -85,10 +80,6 @@ front_of valid bs = let read = fact_front valid 1 (rows bs) in cond (nat_lt most
 abbrev pub facts_before : (ℤ → Bool) → Option (List ℕ) → List Fact
 facts_before valid None = []
 facts_before valid (Some bs) = front_of valid bs
-
--- the new entries over the beginning of the old ones
-abbrev pub over : List Fact → List Fact → List Fact
-over new old = new ++ drop (length new) old
 
 -- what it means: which rows are the writing of which facts ------------------------------------------------
 
@@ -114,12 +105,12 @@ pub record FileWritten (valid : ℤ → Bool) (facts : List Fact) (bs : List ℕ
   pub few : length facts ≤ most_facts
   pub short : length bs ≤ most_bytes
 
--- a file was loaded into a table: exactly the writings of facts are accepted, and the table then begins with those facts
-pub record FileLoaded (valid : ℤ → Bool) (bs : List ℕ) (r : Outcome ℕ) (table : List Fact) : Type 0 where
-  pub reads : (facts : List Fact) → FileWritten valid facts bs → (r ≡ Ok (length facts)) × (take (length facts) table ≡ facts)
-  pub was : (n : ℕ) → r ≡ Ok n → FileWritten valid (take n table) bs
+-- a file was loaded into a list: exactly the writings of facts are accepted, and the list then has those facts
+pub record FileLoaded (valid : ℤ → Bool) (bs : List ℕ) (r : Outcome (Unit {0})) (loaded : List Fact) : Type 0 where
+  pub reads : (facts : List Fact) → FileWritten valid facts bs → (r ≡ Ok tt) × (loaded ≡ facts)
+  pub was : r ≡ Ok tt → FileWritten valid loaded bs
 
 -- the same where there may be no file, which is then refused
-abbrev pub FactsLoaded : (ℤ → Bool) → Option (List ℕ) → Outcome ℕ → List Fact → Type 0
-FactsLoaded valid None r table = r ≡ refuse 7 0 0 Reader
-FactsLoaded valid (Some bs) r table = FileLoaded valid bs r table
+abbrev pub FactsLoaded : (ℤ → Bool) → Option (List ℕ) → Outcome (Unit {0}) → List Fact → Type 0
+FactsLoaded valid None r loaded = r ≡ refuse 7 0 0 Reader
+FactsLoaded valid (Some bs) r loaded = FileLoaded valid bs r loaded

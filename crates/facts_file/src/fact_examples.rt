@@ -1,10 +1,11 @@
 //! The worked example's file of facts, loaded; its contract has this and other files with what they come to.
 ghost use Rattle.std.specs.Prelude.{◌≡◌, Ok};
-ghost use Rattle.facts_file.specs.Facts.{over};
+ghost use Rattle.lists.specs.Held.{held};
 ghost use Rattle.facts_file.specs.FactExamples.{looped_line, looped_line_file, FilesOfFacts};
 
 use crate::fact_rows::{MOST_FACTS, load_facts};
 use facts::{Fact, Lengths};
+use lists::FixedList;
 use rows::Refusal;
 
 fn looped_line_file() -> &'static [u8]
@@ -14,10 +15,10 @@ fn looped_line_file() -> &'static [u8]
 }
 
 /// Loads the looped line: two segments, one there and one back, and a launcher.
-pub fn load_looped_line(table: &mut [Fact; MOST_FACTS]) -> Result<usize, Refusal>
-    ensures answer { result ≡ Ok 3 }
-    ensures table { table.new ≡ over looped_line table.old }
+pub fn load_looped_line(facts: &mut FixedList<Fact, MOST_FACTS>) -> Result<(), Refusal>
+    ensures answer { result ≡ Ok tt }
+    ensures facts { held facts.new ≡ looped_line }
     ensures computed { FilesOfFacts }
 {
-    load_facts::<Lengths>(Some(looped_line_file()), table)
+    load_facts::<Lengths>(Some(looped_line_file()), facts)
 }

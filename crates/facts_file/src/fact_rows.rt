@@ -1,16 +1,18 @@
 //! The loader of `facts.csv`: from the file's bytes to facts, or to the refusal of its first faulty row.
-ghost use Rattle.std.specs.Prelude.{◌≡◌, ◌≤◌, IfOk, OnOk, nat_lt};
+ghost use Rattle.std.specs.Prelude.{◌≡◌, ◌≤◌, [], Ok, OnOk, nat_lt};
 ghost use Rattle.rows.specs.Fields.{field_seen, place_of, number_in};
 ghost use Rattle.rows.specs.Refusals.{refusal, refused_as};
 ghost use Rattle.facts_file.specs.FactRefusals.{fact_refusal, Named};
 ghost use Rattle.rows.specs.declared.refusal_types.Layer.TheVariants.{Reader};
 ghost use Rattle.std.specs.Option.{option_map};
-ghost use Rattle.rows.specs.Csv.{rows};
-ghost use Rattle.facts_file.specs.Facts.{words, most_facts, fact_kind, fact_word, fact_rows, fact_front, fact_count, facts_file, facts_before, over, FactsLoaded};
+ghost use Rattle.std.specs.Result.{result_and};
+ghost use Rattle.lists.specs.Held.{held};
+ghost use Rattle.facts_file.specs.Facts.{words, most_facts, fact_kind, fact_word, facts_file, facts_before, FactsLoaded};
 ghost use Rattle.facts_file.specs.FactScan.{number_field, words_at, fact_at, fact_step, step_seen};
 
 use crate::fault_types::FactFault;
 use facts::{Fact, WORDS, Words, kind_of};
+use lists::FixedList;
 use rows::{
     Field, FieldFault, Place, Refusal, file_bytes, read_field, read_number, readable, row_of_width,
 };
@@ -91,35 +93,35 @@ fn next_fact<'a, W: Words>(bytes: &'a [u8], row: u32) -> Result<(Fact, &'a [u8])
     Ok((fact, rest))
 }
 
-// The count is the answer, and it numbers the rows, as in `row_count`: an iterator of rows would leave it to be counted here.
-fn load_rows<W: Words>(bytes: &[u8], table: &mut [Fact; MOST_FACTS]) -> Result<usize, FactFault>
-    ensures answer { refused_as fact_refusal result ≡ fact_count (fact_rows W.Words.system.valid 1 (rows bytes.now)) }
-    ensures table { table.new ≡ over (fact_front W.Words.system.valid 1 (rows bytes.now)) table.old }
-    ensures bound { IfOk result (λ n. n ≤ most_facts) }
+/// A list without facts, for a file to be read into.
+pub fn no_facts() -> FixedList<Fact, MOST_FACTS>
+    ensures { held result ≡ [] }
 {
-    let mut count = 0;
-    let mut rest = bytes;
-    while !rest.is_empty() {
-        let (fact, more) = next_fact::<W>(rest, count as u32 + 1)?;
-        table[count] = fact;
-        count += 1;
-        rest = more;
-    }
-    Ok(count)
+    let blank = Fact {
+        kind: 0,
+        words: [0; WORDS],
+    };
+    FixedList::new(blank)
 }
 
-/// Reads the facts of a file into the table, and answers how many they are; none for the file is a file that is not there.
-/// Where the file is refused, the table begins with the facts of the rows before the one that is refused.
+/// Reads the facts of a file into the list, whatever it had; none for the file is a file that is not there.
+/// Where the file is refused, the list has the facts of the rows before the one that is refused.
+// By hand: the list numbers the rows, and an iterator of rows would count them once more.
 pub fn load_facts<W: Words>(
     file: Option<&[u8]>,
-    table: &mut [Fact; MOST_FACTS],
-) -> Result<usize, Refusal>
-    ensures answer { result ≡ fact_count (facts_file W.Words.system.valid (option_map (λ x. x.now) file.entry)) }
-    ensures table { table.new ≡ over (facts_before W.Words.system.valid (option_map (λ x. x.now) file.entry)) table.old }
-    ensures bound { IfOk result (λ n. n ≤ most_facts) }
+    facts: &mut FixedList<Fact, MOST_FACTS>,
+) -> Result<(), Refusal>
+    ensures answer { result_and result (Ok (held facts.new)) ≡ facts_file W.Words.system.valid (option_map (λ x. x.now) file.entry) }
+    ensures facts { held facts.new ≡ facts_before W.Words.system.valid (option_map (λ x. x.now) file.entry) }
     ensures named { Named result }
-    ensures loaded { FactsLoaded W.Words.system.valid (option_map (λ x. x.now) file.entry) result table.new }
+    ensures loaded { FactsLoaded W.Words.system.valid (option_map (λ x. x.now) file.entry) result (held facts.new) }
 {
-    let bytes = file_bytes(file)?;
-    Ok(load_rows::<W>(bytes, table)?)
+    facts.clear();
+    let mut rest = file_bytes(file)?;
+    while !rest.is_empty() {
+        let (fact, more) = next_fact::<W>(rest, facts.len() as u32 + 1)?;
+        facts.push(fact);
+        rest = more;
+    }
+    Ok(())
 }

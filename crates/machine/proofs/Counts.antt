@@ -54,10 +54,6 @@ module _ {X : Type 0} where
   tally-and p q [] = omega arith
   tally-and p q (x ∷ xs) = omega (arith, one-and (p x) (q x), tally-and p q xs)
 
-  pub tally-and-left : (p q : X → Bool) (xs : List X) → tally (λ x. p x && q x) xs ≤ tally p xs
-  tally-and-left p q [] = omega arith
-  tally-and-left p q (x ∷ xs) = omega (arith, one-and-left (p x) (q x), tally-and-left p q xs)
-
   tally_cond : (p : X → Bool) (x : X) (xs : List X) (b : Bool) → tally p (cond b (x ∷ xs) xs) ≡ one (p x && b) + tally p xs
   tally_cond p x xs true = omega (arith, ap one (and-true (p x)))
   tally_cond p x xs false = omega (arith, ap one (and-false (p x)))
@@ -70,9 +66,6 @@ module _ {X : Type 0} where
   -- a filter and its opposite make up the list
   pub tally-both : (p q : X → Bool) (xs : List X) → tally p xs ≡ tally p (filter q xs) + tally p (filter (λ x. not (q x)) xs)
   tally-both p q xs = omega (arith, tally-split p q xs, tally-kept p q xs, tally-kept p (λ x. not (q x)) xs)
-
-  pub tally-kept-le : (p q : X → Bool) (xs : List X) → tally p (filter q xs) ≤ tally p xs
-  tally-kept-le p q xs = omega (arith, tally-both p q xs)
 
   -- a member that passes is counted
   pub tally-member : (p : X → Bool) (x : X) (xs : List X) → p x ≡ true → Memᴰ x xs → 1 ≤ tally p xs

@@ -1,5 +1,5 @@
 -- Pairs under labels: how often a label stands in a list, and what is left when labels are taken out.
-use Rattle.std.proofs.Common.{◌≡◌, ℕ, suc, ◌+◌, ◌≤◌, Bool, true, false, not, ◌&&◌, ◌||◌, eqb, List, [], ◌∷◌, ◌++◌, length, sym, refl, ap, inl, inr, arith}
+use Rattle.std.proofs.Common.{◌≡◌, ℕ, suc, ◌+◌, ◌≤◌, Bool, true, false, not, ◌&&◌, ◌||◌, eqb, List, [], ◌∷◌, ◌++◌, sym, refl, ap, inl, inr, arith}
 use mathlib.Core.Bool.{and-true}
 use mathlib.Core.List.{Memᴰ}
 use Rattle.std.proofs.lemmas.Bool.{and_from, eq-eqb, and_parts, or_from, or_left, or_right, cases_Bool}
@@ -118,10 +118,6 @@ chosen-parts ps c a m d p =
     omega (arith, picked ps c a m d p, tally-append p c (without (labels c) ps), tally-kept p (λ x. not (has (label x) (labels c))) ps)
 
 -- new labels ------------------------------------------------------------------------------------------
-
-pub length-numbered : (m : ℕ) (fs : List Fact) → length (numbered m fs) ≡ length fs
-length-numbered m [] = refl
-length-numbered m (f ∷ fs) = ap suc (length-numbered (suc m) fs)
 
 pub facts-numbered : (m : ℕ) (fs : List Fact) → facts (numbered m fs) ≡ fs
 facts-numbered m [] = refl

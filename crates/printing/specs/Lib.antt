@@ -1,3 +1,4 @@
 pub mod Print
 pub mod Checks
 pub mod Ends
+pub mod Files

@@ -1,8 +1,10 @@
 //! What the check of a file comes to, and the row that it prints.
-ghost use Rattle.std.specs.Prelude.{◌≡◌, ◌≤◌, IfOk};
+ghost use Rattle.std.specs.Prelude.{◌≡◌, Ok};
 ghost use Rattle.std.specs.Option.{option_map};
+ghost use Rattle.std.specs.Result.{result_and};
+ghost use Rattle.lists.specs.Held.{held};
 ghost use Rattle.facts.specs.Lengths.{lengths};
-ghost use Rattle.facts_file.specs.Facts.{fact_count, facts_file, facts_before, over, FactsLoaded};
+ghost use Rattle.facts_file.specs.Facts.{facts_file, facts_before, FactsLoaded};
 ghost use Rattle.rules_file.specs.RuleRows.{rules_file};
 ghost use Rattle.rules_file.specs.RulesWritten.{RulesLoaded};
 ghost use Rattle.reader.specs.RuleScan.{closed_result};
@@ -11,15 +13,10 @@ ghost use Rattle.printing.specs.Checks.{outcome_of, print_of, check_print};
 
 use crate::lines::refuse_row;
 use crate::refused_type::Refused;
-use facts::{Fact, Lengths, WORDS, Words};
+use facts::{Fact, Lengths, Words};
+use lists::FixedList;
 use reader::{MOST_FACTS, Refusal, load_facts, load_rules};
 use rules::ClosedSet;
-
-/// What a caller's table of facts holds before a file is read into it.
-pub const NO_FACTS: [Fact; MOST_FACTS] = [Fact {
-    kind: 0,
-    words: [0; WORDS],
-}; MOST_FACTS];
 
 impl From<Refusal> for Refused {
     ghost from_gives = { λ r e. (e.refusal ≡ r) × (line_text e.line ≡ refuse_row r) };
@@ -40,13 +37,15 @@ pub fn check_rules(file: Option<&[u8]>) -> Result<ClosedSet<Lengths>, Refused>
 }
 
 /// Checks a file of facts; none for the file is a file that is not there.
-/// Where it is accepted, the table begins with its facts, and nothing is printed.
-pub fn check_facts(file: Option<&[u8]>, table: &mut [Fact; MOST_FACTS]) -> Result<usize, Refused>
-    ensures outcome { outcome_of result ≡ fact_count (facts_file lengths.valid (option_map (λ x. x.now) file.entry)) }
-    ensures print { print_of result ≡ check_print (fact_count (facts_file lengths.valid (option_map (λ x. x.now) file.entry))) }
-    ensures table { table.new ≡ over (facts_before lengths.valid (option_map (λ x. x.now) file.entry)) table.old }
-    ensures loaded { FactsLoaded lengths.valid (option_map (λ x. x.now) file.entry) (outcome_of result) table.new }
-    ensures bound { IfOk result (λ count. count ≤ 512) }
+/// Where it is accepted, the list has its facts, and nothing is printed.
+pub fn check_facts(
+    file: Option<&[u8]>,
+    facts: &mut FixedList<Fact, MOST_FACTS>,
+) -> Result<(), Refused>
+    ensures outcome { result_and (outcome_of result) (Ok (held facts.new)) ≡ facts_file lengths.valid (option_map (λ x. x.now) file.entry) }
+    ensures print { print_of result ≡ check_print (facts_file lengths.valid (option_map (λ x. x.now) file.entry)) }
+    ensures facts { held facts.new ≡ facts_before lengths.valid (option_map (λ x. x.now) file.entry) }
+    ensures loaded { FactsLoaded lengths.valid (option_map (λ x. x.now) file.entry) (outcome_of result) (held facts.new) }
 {
-    Ok(load_facts::<Lengths>(file, table)?)
+    Ok(load_facts::<Lengths>(file, facts)?)
 }

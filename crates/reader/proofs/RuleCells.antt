@@ -23,13 +23,6 @@ texts_push : (ts : List (List ℕ)) (t : List ℕ) (o : Option (List (List ℕ))
 texts_push ts t (Some us) = ap (λ (x : List (List ℕ)). Some x) (sym (append_assoc ts (t ∷ []) us))
 texts_push ts t None = refl
 
-pub texts_none : (bs : List ℕ) → texts_at 6 bs ≡ behind_texts [] (texts_at 6 bs)
-texts_none bs = go (texts_at 6 bs)
-  where
-    go : (o : Option (List (List ℕ))) → o ≡ behind_texts [] o
-    go (Some us) = refl
-    go None = refl
-
 module _ (whole : Option (List (List ℕ))) (ts : List (List ℕ)) (i : ℕ) (few : i < 6) (bs : List ℕ) (inv : whole ≡ behind_texts ts (texts_at (6 - i) bs)) (place : Place) where
   next_text : whole ≡ behind_texts ts (text_then (texts_at (6 - (i + 1))) (read_separated bs))
   unfolding texts_at

@@ -10,7 +10,7 @@ use Rattle.reader.specs.declared.row_types.RuleRow.{RuleRow}
 use Rattle.rows.specs.declared.refusal_types.Layer.TheVariants.{Reader}
 use Rattle.rows.specs.declared.refusal_types.Refusal.{Refusal}
 use Rattle.rows.proofs.Sorted.{GoesOn, goes, first_field}
-use Rattle.rows.proofs.Rows.{counted-got, rows_step, rows_end, row_shorter, wide-got, wide-none}
+use Rattle.rows.proofs.Rows.{counted-got, rows_step, rows_end, row_shorter, wide-got}
 
 -- the six fields of a row ------------------------------------------------------------------------------------------------
 
@@ -25,13 +25,6 @@ six_texts : (fs : List Part) (bs end : List ℕ) → read_row bs ≡ got fs end 
 six_texts fs bs end e l = ap (λ (n : ℕ). texts_at n bs) (sym l) ∙ texts_of_row fs bs end (goes fs bs end e)
 
 module _ (row : ℕ) (bs : List ℕ) where
-  pub six-uneven : None ≡ of_width 6 (counted (read_row bs)) → NotSix (read_row bs)
-  six-uneven h = go (read_row bs) refl
-    where
-      go : (r : Read (List Part)) → read_row bs ≡ r → NotSix r
-      go (got fs rest) e = wide-none 6 (length fs) (counted (read_row bs)) rest h (ap counted e)
-      go broken e = tt
-
   module _ (rest : List ℕ) (wide : Some rest ≡ of_width 6 (counted (read_row bs))) where
     six_parts : (fs : List Part) × (read_row bs ≡ got fs rest) × (length fs ≡ 6)
     six_parts = counted-got (read_row bs) 6 rest (sym (wide-got 6 (counted (read_row bs)) rest wide))

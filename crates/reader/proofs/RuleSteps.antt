@@ -12,15 +12,10 @@ use Rattle.rules.specs.declared.rule_types.BodyPart.{BodyPart}
 use Rattle.rules.specs.declared.rule_types.BodyPart.TheVariants as in_Body
 use Rattle.rules.specs.Rules.{Rule}
 use Rattle.rules.specs.Writing.{may_add, may_add_body, add_head, add_body, stage, done, after}
-use Rattle.rows.specs.Refusals.{Outcome, refusal, ◌>>=◌, refused_as}
-use Rattle.rows.specs.declared.refusal_types.Layer.TheVariants.{RuleSet}
-use Rattle.rules.specs.declared.rule_types.RuleFault.TheVariants.{OutOfOrder}
-use Rattle.rules.specs.Sets.{body_rules, body_draft}
-use Rattle.reader.specs.declared.stage_type.Stage.{Stage}
-use Rattle.reader.specs.declared.stage_type.Stage.TheVariants.{Before, Head, Body}
+use Rattle.rows.specs.Refusals.{Outcome, ◌>>=◌, refused_as}
 use Rattle.rules_file.specs.RuleRefusals.{row_refusal}
 use Rattle.rules_file.specs.RuleRows.{word_spelled, ruled, head_part, body_part, with_head, with_body, State, no_rule, writing, write_head, write_body}
-use Rattle.reader.specs.RuleScan.{with_head_row, with_body_row, written, BegunBy, in_rule, stage_seen, Begun}
+use Rattle.reader.specs.RuleScan.{with_head_row, with_body_row, written, BegunBy, in_rule}
 use Rattle.rows.specs.declared.field_types.Place.{Place}
 use Rattle.rows.specs.declared.refusal_types.Refusal.{Refusal}
 use Rattle.rules_file.specs.declared.fault_types.RowFault.{RowFault}
@@ -134,17 +129,14 @@ module _ (valid : ℤ → Bool) (row : ℕ) (cs : List (List ℕ)) (done : List 
   pub body-step : (sort : BodySort) → write_body valid row cs sort (writing done at_row r) ≡ (with_body_row valid row cs sort r >>= λ new. Ok (writing done at_row new))
   body-step sort = rebound (ruled row 0 (may_add_body sort r)) (body_part valid row r sort cs) (λ p. with_body p r) (writing done at_row)
 
-  pub head-refused : (sort : HeadSort) (x : Refusal) → Err x ≡ with_head_row valid row cs sort r → Err x ≡ write_head valid row cs sort (writing done at_row r)
-  head-refused sort x h = sym (head_step sort ∙ rw (← h) refl)
+  -- what is written where the rule stands
+  pub head-written : (sort : HeadSort) (new : Rule) (rules : List Rule) (res : Result (Unit {0}) RowFault) → rules ≡ done → refused_as row_refusal (written res new) ≡ with_head_row valid row cs sort r → refused_as row_refusal (written res (writing rules at_row new)) ≡ write_head valid row cs sort (writing done at_row r)
+  head-written sort new rules (Ok u) e h = ap (λ (d : List Rule). Ok (writing d at_row new)) e ∙ sym (head_step sort ∙ rw (← h) refl)
+  head-written sort new rules (Err x) e h = sym (head_step sort ∙ rw (← h) refl)
 
-  pub head-written : (sort : HeadSort) (new : Rule) (rules : List Rule) → rules ≡ done → Ok new ≡ with_head_row valid row cs sort r → Ok (writing rules at_row new) ≡ write_head valid row cs sort (writing done at_row r)
-  head-written sort new rules e h = ap (λ (d : List Rule). Ok (writing d at_row new)) e ∙ sym (head_step sort ∙ rw (← h) refl)
-
-  pub body_refused : (sort : BodySort) (x : Refusal) → Err x ≡ with_body_row valid row cs sort r → Err x ≡ write_body valid row cs sort (writing done at_row r)
-  body_refused sort x h = sym (body-step sort ∙ rw (← h) refl)
-
-  pub body-written : (sort : BodySort) (new : Rule) (rules : List Rule) → rules ≡ done → Ok new ≡ with_body_row valid row cs sort r → Ok (writing rules at_row new) ≡ write_body valid row cs sort (writing done at_row r)
-  body-written sort new rules e h = ap (λ (d : List Rule). Ok (writing d at_row new)) e ∙ sym (body-step sort ∙ rw (← h) refl)
+  pub body-written : (sort : BodySort) (new : Rule) (rules : List Rule) (res : Result (Unit {0}) RowFault) → rules ≡ done → refused_as row_refusal (written res new) ≡ with_body_row valid row cs sort r → refused_as row_refusal (written res (writing rules at_row new)) ≡ write_body valid row cs sort (writing done at_row r)
+  body-written sort new rules (Ok u) e h = ap (λ (d : List Rule). Ok (writing d at_row new)) e ∙ sym (body-step sort ∙ rw (← h) refl)
+  body-written sort new rules (Err x) e h = sym (body-step sort ∙ rw (← h) refl)
 
 -- the body that a part goes to ---------------------------------------------------------------------------------------------
 
@@ -152,28 +144,4 @@ pub in_rule-was : (row : ℕ) (st x : State) → Ok x ≡ in_rule row st → st 
 in_rule-was row no_rule x h = absurd (no_ok _ x (sym h))
 in_rule-was row (writing done at_row r) x h = same_ok {E = Refusal} (writing done at_row r) x (sym h)
 
-pub in_rule-refused : (valid : ℤ → Bool) (row : ℕ) (cs : List (List ℕ)) (sort : BodySort) (st : State) (e : Refusal) → Err e ≡ in_rule row st → Err e ≡ write_body valid row cs sort st
-in_rule-refused valid row cs sort no_rule e h = h
-in_rule-refused valid row cs sort (writing done at_row r) e h = absurd (no_ok e _ h)
-
 -- no head behind a body ----------------------------------------------------------------------------------------------------
-
-late_head : (sort : HeadSort) (r : Rule) → 5 ≤ stage r → may_add sort r ≡ Err OutOfOrder
-late_head Keep r l = grind (arith, nat_tests)
-late_head Drop r l = grind (arith, nat_tests)
-late_head KeepAll r l = grind (arith, nat_tests)
-late_head DropAll r l = grind (arith, nat_tests)
-late_head Only r l = grind (arith, nat_tests)
-late_head When r l = grind (arith, nat_tests)
-
--- a stage at which no head may follow
-abbrev pub NoHead : {W : Type 0} → Stage W → Type 0
-NoHead Before = Unit {0}
-NoHead (Head s row) = ⊥
-NoHead (Body s row) = Unit {0}
-
-pub head_late : {W : Type 0} (valid : ℤ → Bool) (row : ℕ) (cs : List (List ℕ)) (sort : HeadSort) (st : Stage W) → NoHead st → Begun st → Err (refusal 9 row 0 RuleSet) ≡ write_head valid row cs sort (stage_seen st)
-head_late valid row cs sort Before u b = refl
-head_late valid row cs sort (Head s n) u b = absurd u
-head_late valid row cs sort (Body s n) u b =
-    sym (ap (λ (o : Result (Unit {0}) RuleFault). ruled row 0 o >>= λ _. head_part valid row (body_draft s) sort cs >>= λ p. Ok (writing (body_rules s) n (with_head p (body_draft s)))) (late_head sort (body_draft s) b))

@@ -11,7 +11,7 @@ mod rule_stages;
 mod spelling;
 mod stage_type;
 
-pub use facts_file::{FactFault, MOST_FACTS, load_facts, load_looped_line};
+pub use facts_file::{FactFault, MOST_FACTS, load_facts, load_looped_line, no_facts};
 pub use rows::{
     Field, FieldFault, Layer, MOST_BYTES, Place, Refusal, read_field, read_number, read_row,
     row_count,

@@ -37,7 +37,8 @@ fn read_words<J: Judges>(
 }
 
 // A head: its kind, its arguments, and a field that is not used.
-// Rule and sort are two here and above: `Arguments` borrows the rule, which `add_head` is lent to change.
+// Rule and sort are two here, in `read_head_part` and in `add_head`: the last changes the rule, which `Arguments` borrows, and with
+// `Arguments { rule, sort }` in the arms of `read_head_part` the proof stays open.
 fn read_pattern<W: Words>(
     rule: &RuleHead<W>,
     sort: HeadSort,

@@ -34,7 +34,7 @@ fn load_rows<W: Words>(bytes: &[u8]) -> Result<ClosedSet<W>, RowFault>
     let mut row = 1;
     while !rest.is_empty() {
         let (cells, more) = next_row(rest, row)?;
-        stage = stage.write_row(&cells)?;
+        stage.write_row(&cells)?;
         rest = more;
         row += 1;
     }

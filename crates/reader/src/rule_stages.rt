@@ -1,8 +1,9 @@
 //! From row to row of a rules file: 7, the word (8), 5 of the rule before, 9, 4, and then the fields from left to right.
-ghost use Rattle.std.specs.Prelude.{◌≡◌, IfOk};
+ghost use Rattle.std.specs.Prelude.{◌≡◌, IfOk, OnOk, Some};
 ghost use Rattle.rules.specs.Sets.{open_rules, head_rules, head_draft, body_rules, body_draft};
 ghost use Rattle.rows.specs.Refusals.{refused_as};
 ghost use Rattle.rules_file.specs.RuleRefusals.{row_refusal};
+ghost use Rattle.rules_file.specs.declared.word_type.RowWord.TheVariants.{Rule};
 ghost use Rattle.rules_file.specs.RuleRows.{writing, finished, new_rule, write_head, write_body, write_word, word, at};
 ghost use Rattle.reader.specs.RuleScan.{cells, with_head_row, with_body_row, written, stage_seen, Begun, BegunBy, stage_result, body_result, in_rule, open_result};
 
@@ -15,6 +16,7 @@ use facts::Words;
 use rows::{FieldFault, Place};
 use rules::{BodySort, HeadSort, OpenSet, RuleBody, RuleFault, RuleHead};
 use rules_file::{RowFault, RowWord};
+use std::mem;
 
 // The part of the row is added to the rule: 9, 4, then its fields.
 fn add_head<W: Words>(
@@ -77,23 +79,31 @@ impl<W: Words> Stage<W> {
         }
     }
 
-    fn write_head(self, sort: HeadSort, row: &RuleRow<'_>) -> Result<Stage<W>, RowFault>
-        requires { Begun self }
-        ensures step { refused_as row_refusal (stage_result result) ≡ write_head W.Words.system.valid row.now.row (cells row.now) sort (stage_seen self) }
-        ensures begun { IfOk result Begun }
+    // A rule is begun behind the others. The rule being written, if there is one, becomes one of them.
+    fn begin_rule(&mut self, row: &RuleRow<'_>) -> Result<(), RowFault>
+        ensures step { refused_as row_refusal (written result (stage_seen self.new)) ≡ write_word W.Words.system.valid row.now.row (cells row.now) (stage_seen self.old) (Some Rule) }
+        ensures begun { OnOk result (Begun self.new) }
+    {
+        let set = mem::replace(self, Stage::Before).end_rule()?;
+        *self = new_rule(set, row)?;
+        Ok(())
+    }
+
+    fn write_head(&mut self, sort: HeadSort, row: &RuleRow<'_>) -> Result<(), RowFault>
+        requires { Begun self.old }
+        ensures step { refused_as row_refusal (written result (stage_seen self.new)) ≡ write_head W.Words.system.valid row.now.row (cells row.now) sort (stage_seen self.old) }
+        ensures begun { OnOk result (Begun self.new) }
     {
         match self {
-            Stage::Head(mut rule, at) => {
-                add_head(&mut rule, sort, row)?;
-                Ok(Stage::Head(rule, at))
-            }
+            Stage::Head(rule, _) => add_head(rule, sort, row),
             Stage::Before | Stage::Body(_, _) => {
                 Err(RowFault::Set(RuleFault::OutOfOrder, row.whole()))
             }
         }
     }
 
-    // The body of the rule being written, which may begin with this row, and the number of its `rule` row.
+    // The body of the rule being written, which may begin with this row, and the number of its `rule` row. `write_body` adds to a body
+    // where it stands, so the last arm is there for the definition alone.
     fn body(self, row: &RuleRow<'_>) -> Result<(RuleBody<W>, u32), RowFault>
         ensures { refused_as row_refusal (body_result result) ≡ in_rule row.now.row (stage_seen self) }
     {
@@ -104,24 +114,28 @@ impl<W: Words> Stage<W> {
         }
     }
 
-    fn write_body(self, sort: BodySort, row: &RuleRow<'_>) -> Result<Stage<W>, RowFault>
-        ensures step { refused_as row_refusal (stage_result result) ≡ write_body W.Words.system.valid row.now.row (cells row.now) sort (stage_seen self) }
-        ensures begun { IfOk result Begun }
+    fn write_body(&mut self, sort: BodySort, row: &RuleRow<'_>) -> Result<(), RowFault>
+        ensures step { refused_as row_refusal (written result (stage_seen self.new)) ≡ write_body W.Words.system.valid row.now.row (cells row.now) sort (stage_seen self.old) }
+        ensures begun { OnOk result (Begun self.new) }
     {
-        let (mut body, at) = self.body(row)?;
+        if let Stage::Body(body, _) = self {
+            return add_body(body, sort, row);
+        }
+        let (mut body, at) = mem::replace(self, Stage::Before).body(row)?;
         add_body(&mut body, sort, row)?;
-        Ok(Stage::Body(body, at))
+        *self = Stage::Body(body, at);
+        Ok(())
     }
 
-    // What the word of the row asks for.
-    pub(crate) fn write_row(self, row: &RuleRow<'_>) -> Result<Stage<W>, RowFault>
-        requires { Begun self }
-        ensures step { refused_as row_refusal (stage_result result) ≡ write_word W.Words.system.valid row.now.row (cells row.now) (stage_seen self) (word (at 1 (cells row.now))) }
-        ensures begun { IfOk result Begun }
+    // What the word of the row asks for. A part is added to the rule where it stands, since a stage has the whole set in it.
+    pub(crate) fn write_row(&mut self, row: &RuleRow<'_>) -> Result<(), RowFault>
+        requires { Begun self.old }
+        ensures step { refused_as row_refusal (written result (stage_seen self.new)) ≡ write_word W.Words.system.valid row.now.row (cells row.now) (stage_seen self.old) (word (at 1 (cells row.now))) }
+        ensures begun { OnOk result (Begun self.new) }
     {
         let Cell { text, place } = row.cell(1);
         match word_written(text) {
-            Some(RowWord::Rule) => new_rule(self.end_rule()?, row),
+            Some(RowWord::Rule) => self.begin_rule(row),
             Some(RowWord::Head(sort)) => self.write_head(sort, row),
             Some(RowWord::Body(sort)) => self.write_body(sort, row),
             None => Err(RowFault::Field(FieldFault { place })),

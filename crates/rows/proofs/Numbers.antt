@@ -1,8 +1,6 @@
 -- Numbers: exactly the decimal writings are read.
-use Rattle.std.proofs.Common.{◌≡◌, ℕ, suc, ◌+◌, ◌-◌, ◌*◌, ◌^◌, ◌<◌, ◌≤◌, Bool, true, false, cond, ◌&&◌, eqb, leb, List, [], ◌∷◌, length, get_or, drop, ℤ, pos, neg_ℤ, Some, None, Option, sym, refl, ap, ◌∙◌, subst, mul_assoc, mul_comm, add-mul, pow-suc, mul_left_comm, add-one, arith}
-use native.Mathlib.Nat.{pow-le-pow_right}
+use Rattle.std.proofs.Common.{◌≡◌, ℕ, suc, ◌+◌, ◌-◌, ◌*◌, ◌^◌, ◌<◌, Bool, true, false, cond, ◌&&◌, eqb, leb, List, [], ◌∷◌, length, drop, ℤ, pos, neg_ℤ, Some, None, Option, sym, refl, ap, ◌∙◌, subst, mul_assoc, mul_comm, add-mul, pow-suc, mul_left_comm, arith}
 use Rattle.std.proofs.lemmas.Bool.{eqb-true, leb-true, le-leb, and_parts}
-use Rattle.std.proofs.lemmas.List.{drop_more, drop_all}
 use Rattle.std.proofs.lemmas.Bool.Decides.{nat_tests}
 use Rattle.rows.specs.Numbers.{minus, is_digit, all_digits, digits, value_after, unsigned, positive, negative, number, places, Digits, Decimal, NumberGrammar}
 
@@ -86,40 +84,3 @@ pub record Scanned (bs : List ℕ) (n i : ℕ) : Type 0 where
   pub same : value_after 0 bs ≡ value_after n (drop i bs)
   pub all : all_digits bs ≡ all_digits (drop i bs)
   pub small : n < 10 ^ i
-
-pub scanned_none : (bs : List ℕ) → Scanned bs 0 0
-scanned_none bs = record { same = refl; all = refl; small = omega arith }
-
-pub scanned_more : (bs : List ℕ) (n i : ℕ) → i < length bs → is_digit (get_or bs i 0) ≡ true → Scanned bs n i → Scanned bs (10 * n + (get_or bs i 0 - 48)) (i + 1)
-scanned_more bs n i h d s =
-    let least : get_or bs i 0 ≤ 57 = leb-true (get_or bs i 0) 57 (and_parts (leb 48 (get_or bs i 0)) (leb (get_or bs i 0) 57) d).1 in
-    record {
-      same = s.same ∙ ap (value_after n) (drop_more bs i 0 h);
-      all = s.all ∙ ap all_digits (drop_more bs i 0 h) ∙ rw d;
-      small = rw (add-one i, pow-suc) (omega (arith, s.small));
-    }
-
-pub scanned_fits : (bs : List ℕ) (n i : ℕ) → length bs ≤ 10 → i ≤ length bs → Scanned bs n i → n < 10 ^ 10
-scanned_fits bs n i l h s =
-    let short : i ≤ 10 = omega arith in
-    let ten : 0 < 10 = omega arith in
-    let most : 10 ^ i ≤ 10 ^ 10 = pow-le-pow_right ten short in
-    omega (arith, s.small)
-
-pub scanned_all : (bs : List ℕ) (n i : ℕ) → 1 ≤ length bs → length bs ≤ 10 → length bs ≤ i → Scanned bs n i → Some n ≡ unsigned bs
-scanned_all bs n i f l h s =
-    let end = drop_all i bs h in
-    let all : all_digits bs ≡ true = s.all ∙ ap all_digits end in
-    let value : value_after 0 bs ≡ n = s.same ∙ ap (value_after n) end in
-    rw (digits-is bs (record { all = all; some = f; few = l }), value)
-
-pub scanned_other : (bs : List ℕ) (n i : ℕ) → i < length bs → is_digit (get_or bs i 0) ≡ false → Scanned bs n i → None ≡ unsigned bs
-scanned_other bs n i h d s =
-    let no : all_digits bs ≡ false = s.all ∙ ap all_digits (drop_more bs i 0 h) ∙ rw d in
-    rw no
-
--- one to ten digits
-pub right-length-is : (bs : List ℕ) → (leb 1 (length bs) && leb (length bs) 10) ≡ true → (1 ≤ length bs) × (length bs ≤ 10)
-right-length-is bs h =
-    let p = and_parts (leb 1 (length bs)) (leb (length bs) 10) h in
-    (leb-true 1 (length bs) p.0, leb-true (length bs) 10 p.1)

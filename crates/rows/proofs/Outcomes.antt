@@ -4,7 +4,7 @@ use Rattle.std.specs.Option.{ok_or}
 use Rattle.std.proofs.lemmas.Bool.{ltb-false}
 use Rattle.rows.specs.declared.refusal_types.Layer.TheVariants.{Reader}
 use Rattle.rows.specs.declared.refusal_types.Refusal.{Refusal}
-use Rattle.rows.specs.Refusals.{refusal, refuse, ◌>>=◌, most_bytes, file_bytes}
+use Rattle.rows.specs.Refusals.{refusal, ◌>>=◌, most_bytes, file_bytes}
 
 pub no_ok : {X E : Type 0} (e : E) (x : X) → ◌≡◌ {A = Result X E} (Err e) (Ok x) → ⊥
 no_ok e x h = let z : ◌≡◌ {A = ℕ} 0 1 = cc in omega arith
@@ -35,19 +35,6 @@ let_in true e r x h = (refl, h)
 let_in false e r x h = absurd (no_ok e x h)
 
 -- the bytes of a file -------------------------------------------------------------------------------------------------
-
--- a file that is not there or is too long
-abbrev pub NoBytes : Option (List ℕ) → Type 0
-NoBytes None = Unit {0}
-NoBytes (Some bs) = ltb most_bytes (length bs) ≡ true
-
-pub bytes-refused : (file : Option (List ℕ)) (e : Refusal) → Err e ≡ file_bytes file → (e ≡ refusal 7 0 0 Reader) × NoBytes file
-bytes-refused None e h = (same_err _ _ h, tt)
-bytes-refused (Some bs) e h = go (ltb most_bytes (length bs)) refl h
-  where
-    go : (t : Bool) → ltb most_bytes (length bs) ≡ t → Err e ≡ cond t (refuse 7 0 0 Reader) (Ok bs) → (e ≡ refusal 7 0 0 Reader) × (ltb most_bytes (length bs) ≡ true)
-    go true l h = (same_err _ _ h, l)
-    go false l h = absurd (no_ok e bs h)
 
 pub bytes-there : (file : Option (List ℕ)) (bs : List ℕ) → Ok bs ≡ file_bytes file → (file ≡ Some bs) × (length bs ≤ most_bytes)
 bytes-there None bs h = absurd (no_ok _ bs (sym h))

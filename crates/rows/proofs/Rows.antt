@@ -12,10 +12,6 @@ abbrev pub ahead : ℕ → Read ℕ → Read ℕ
 ahead n (got m rest) = got (n + m) rest
 ahead n broken = broken
 
-pub ahead_none : (r : Read ℕ) → r ≡ ahead 0 r
-ahead_none (got n rest) = ap (λ (x : ℕ). got x rest) (omega arith)
-ahead_none broken = refl
-
 ahead_with : (n : ℕ) (f : Part) (r : Read (List Part)) → ahead n (counted (with_field f r)) ≡ ahead (n + 1) (counted r)
 ahead_with n f (got fs rest) = ap (λ (x : ℕ). got x rest) (omega arith)
 ahead_with n f broken = refl
@@ -84,10 +80,6 @@ row_read_so bs r e = subst (RowGrammar bs) (sym e) (row_grammar bs)
 abbrev pub past : ℕ → Result ℕ ℕ → Result ℕ ℕ
 past n (Ok m) = Ok (n + m)
 past n (Err m) = Err (n + m)
-
-pub past-none : (r : Result ℕ ℕ) → r ≡ past 0 r
-past-none (Ok n) = ap (λ (x : ℕ). Ok x) (omega arith)
-past-none (Err n) = ap (λ (x : ℕ). Err x) (omega arith)
 
 past_one : (n : ℕ) (r : Result ℕ ℕ) → past n (one_more r) ≡ past (n + 1) r
 past_one n (Ok m) = ap (λ (x : ℕ). Ok x) (omega arith)

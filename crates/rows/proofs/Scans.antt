@@ -1,9 +1,8 @@
 -- The scans of a field, step by step: what is left of the bytes gives the answer, behind what was passed.
-use Rattle.std.proofs.Common.{◌≡◌, ℕ, zero, suc, ◌+◌, ◌-◌, ◌<◌, ◌≤◌, Bool, true, false, eqb, List, [], ◌∷◌, ◌++◌, length, get_or, take, drop, sym, refl, ap, ◌∙◌, append_assoc, append-nil, arith}
-use Rattle.std.proofs.lemmas.List.{take_more, drop_more, drop_all, get_or-drop, take_rest}
+use Rattle.std.proofs.Common.{◌≡◌, ℕ, zero, suc, ◌+◌, ◌-◌, ◌<◌, Bool, true, false, eqb, List, [], ◌∷◌, ◌++◌, length, get_or, take, drop, sym, refl, ap, ◌∙◌, append_assoc, append-nil, arith}
+use Rattle.std.proofs.lemmas.List.{take_more, drop_more, get_or-drop, take_rest}
 use Rattle.std.specs.List.{prefix_len}
-use Rattle.rows.specs.Csv.{quote, comma, cr, lf, text, loose, bare, quoted, Read, got, broken, before, read_bare, read_escaped, made, read_field, next, next_field, next_row}
-use Rattle.rows.proofs.Csv.{next-comma}
+use Rattle.rows.specs.Csv.{quote, text, loose, bare, Read, got, broken, before, read_bare, read_escaped, made, read_field}
 
 before-none : (r : Read (List ℕ)) → before [] r ≡ r
 before-none (got cs rest) = refl
@@ -59,9 +58,6 @@ escaped-more bs i h q t p = passed-more read_escaped bs i h (escaped-byte (get_o
 pub escaped_bad : (bs : List ℕ) (i : ℕ) → i < length bs → eqb (get_or bs i 0) quote ≡ false → loose (get_or bs i 0) ≡ false → Passed read_escaped bs i → read_escaped bs ≡ broken
 escaped_bad bs i h q t p = lost bs i (rw (drop_more bs i 0 h) (escaped-other (get_or bs i 0) (drop (i + 1) bs) q t)) p
 
-pub escaped_open : (bs : List ℕ) (i : ℕ) → length bs ≤ i → Passed read_escaped bs i → read_escaped bs ≡ broken
-escaped_open bs i h p = lost bs i (rw (drop_all i bs h)) p
-
 two-more : (bs : List ℕ) (i : ℕ) → i + 1 < length bs → drop i bs ≡ get_or bs i 0 ∷ (get_or bs (i + 1) 0 ∷ drop (i + 2) bs)
 two-more bs i h =
     let next : i + 1 + 1 ≡ i + 2 = omega arith in
@@ -103,28 +99,6 @@ escaped-closed bs i h q r p =
     shut bs i (drop (i + 1) bs) (rw (drop_more bs i 0 h, q) (closed-by (drop (i + 1) bs) (rw behind r))) p
 
 -- what a slice pattern binds --------------------------------------------------------------------------------
-
--- the rest behind a first byte, and behind two
-pub rest_of-one : (bs : List ℕ) (b : ℕ) → get_or bs 0 0 ≡ suc b → bs ≡ suc b ∷ take (length bs - 1) (drop 1 bs)
-rest_of-one [] b e = absurd (omega arith)
-rest_of-one (x ∷ bs) b e = rw (take_rest (x ∷ bs) 1) (ap (λ (y : ℕ). y ∷ bs) e)
-
-rest_of-two : (bs : List ℕ) (b c : ℕ) → get_or bs 0 0 ≡ suc b → get_or bs 1 0 ≡ suc c → bs ≡ suc b ∷ (suc c ∷ take (length bs - 2) (drop 2 bs))
-rest_of-two [] b c e f = absurd (omega arith)
-rest_of-two (x ∷ []) b c e f = absurd (omega arith)
-rest_of-two (x ∷ (y ∷ bs)) b c e f = rw (take_rest (x ∷ (y ∷ bs)) 2, e, f) refl
-
-pub next-at-comma : (bs : List ℕ) → get_or bs 0 0 ≡ comma → next_field (take (length bs - 1) (drop 1 bs)) ≡ next bs
-next-at-comma bs e = sym (ap next (rest_of-one bs 43 e) ∙ next-comma (take (length bs - 1) (drop 1 bs)))
-
-pub next-at-crlf : (bs : List ℕ) → get_or bs 0 0 ≡ cr → get_or bs 1 0 ≡ lf → next_row (take (length bs - 2) (drop 2 bs)) ≡ next bs
-next-at-crlf bs e f = sym (ap next (rest_of-two bs 12 9 e f))
-
-pub quoted-broken : (bs : List ℕ) → get_or bs 0 0 ≡ quote → read_escaped (take (length bs - 1) (drop 1 bs)) ≡ broken → read_field bs ≡ broken
-quoted-broken bs q e = ap read_field (rest_of-one bs 33 q) ∙ ap (made quoted) e
-
-pub quoted-got : (bs part rest : List ℕ) → get_or bs 0 0 ≡ quote → read_escaped (take (length bs - 1) (drop 1 bs)) ≡ got part rest → read_field bs ≡ got (quoted part) rest
-quoted-got bs part rest q e = ap read_field (rest_of-one bs 33 q) ∙ ap (made quoted) e
 
 pub bare-got : (bs part rest : List ℕ) → eqb (get_or bs 0 0) quote ≡ false → read_bare bs ≡ got part rest → read_field bs ≡ got (bare part) rest
 bare-got [] part rest q e = ap (made bare) e

@@ -42,21 +42,15 @@ fn plain_number(text: &[u8]) -> Option<i64>
     i64::try_from(unsigned_number(text)?).ok()
 }
 
-fn number_written(text: &[u8]) -> Option<i64>
-    ensures { result ≡ number text.now }
-{
-    match text {
-        [b'-', digits @ ..] => Some(-plain_number(digits)?),
-        _ => plain_number(text),
-    }
-}
-
 /// The number that the text writes; none where it writes no number.
 pub fn read_number(text: &[u8]) -> Option<i64>
     ensures reads { result ≡ number text.now }
     ensures grammar { NumberGrammar text.now result }
 {
-    number_written(text)
+    match text {
+        [b'-', digits @ ..] => Some(-plain_number(digits)?),
+        _ => plain_number(text),
+    }
 }
 
 #[cfg(test)]

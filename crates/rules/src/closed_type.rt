@@ -8,6 +8,7 @@ use facts::KINDS;
 use std::marker::PhantomData;
 
 /// How many kinds there are.
+// `as`: the value of a constant calls no function, so neither `from` nor `into`, and nothing is cut off.
 pub(crate) const KIND_COUNT: usize = KINDS as usize;
 
 /// The rules of a job. Each has a `drop` head, and its letters, kinds and all heads are as the writer asks;

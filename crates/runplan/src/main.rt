@@ -10,9 +10,10 @@ ghost use Rattle.runplan.specs.declared.Failed.TheVariants.{Output};
 
 use facts::{Fact, Lengths};
 use input::{BUFFER, PATH, argument, argument_count, read_file};
+use lists::FixedList;
 use machine::End;
-use printing::{CAPACITY, NO_FACTS, Refused, check_facts, check_rules, print_job};
-use reader::MOST_FACTS;
+use printing::{CAPACITY, Refused, check_facts, check_rules, print_job};
+use reader::{MOST_FACTS, no_facts};
 use rules::ClosedSet;
 use std::fs::Files;
 use std::io;
@@ -75,46 +76,47 @@ fn read<T: Drop, R: Files + Print + Eprint, C: FnOnce(Option<&[u8]>) -> Result<T
 fn read_facts<R: Files + Print + Eprint>(
     rt: &R,
     path: &str,
-    table: &mut [Fact; MOST_FACTS],
-) -> Result<usize, Failed> {
-    read(rt, Source::Facts, path, |file| check_facts(file, table))
+    facts: &mut FixedList<Fact, MOST_FACTS>,
+) -> Result<(), Failed> {
+    read(rt, Source::Facts, path, |file| check_facts(file, facts))
 }
 
-// The rules, and how many facts are in the table. The rules file is read to its end before the facts file is opened.
+// The rules, and the facts go into the list. The rules file is read to its end before the facts file is opened.
 fn read_job<R: Files + Print + Eprint>(
     rt: &R,
     paths: Paths<'_>,
-    table: &mut [Fact; MOST_FACTS],
-) -> Result<(ClosedSet<Lengths>, usize), Failed> {
+    facts: &mut FixedList<Fact, MOST_FACTS>,
+) -> Result<ClosedSet<Lengths>, Failed> {
     let set = read(rt, Source::Rules, paths.rules, |file| check_rules(file))?;
-    let count = read_facts(rt, paths.facts, table)?;
-    Ok((set, count))
+    read_facts(rt, paths.facts, facts)?;
+    Ok(set)
 }
 
 fn check<R: Files + Print + Eprint>(rt: &R, paths: Paths<'_>) -> Result<(), Failed> {
-    let mut table = NO_FACTS;
-    let (set, fact_count) = read_job(rt, paths, &mut table)?;
+    let mut survey = no_facts();
+    let set = read_job(rt, paths, &mut survey)?;
     let rule_count = set.rule_count();
     let heads = set.head_count();
+    let fact_count = survey.len();
     let Paths { rules, facts } = paths;
     eprintln!(rt; "{rules}: {rule_count} rules with {heads} heads; {facts}: {fact_count} facts")?;
     Ok(())
 }
 
-fn check_survey<R: Files + Print + Eprint>(rt: &R, facts: &str) -> Result<(), Failed> {
-    let mut table = NO_FACTS;
-    let count = read_facts(rt, facts, &mut table)?;
-    explain_count(rt, facts, count)?;
+fn check_survey<R: Files + Print + Eprint>(rt: &R, path: &str) -> Result<(), Failed> {
+    let mut facts = no_facts();
+    read_facts(rt, path, &mut facts)?;
+    explain_count(rt, path, facts.len())?;
     Ok(())
 }
 
 // The job is printed, and a sentence says why it did not end quiet.
 fn plan<R: Files + Print + Eprint>(rt: &R, paths: Paths<'_>) -> Result<(), Failed> {
-    let mut table = NO_FACTS;
-    let (set, count) = read_job(rt, paths, &mut table)?;
+    let mut facts = no_facts();
+    let set = read_job(rt, paths, &mut facts)?;
     let mut rows = [None; CAPACITY];
     let store = Rows::new(&mut rows);
-    match print_job(rt, set, store, &table[..count.min(MOST_FACTS)])? {
+    match print_job(rt, set, store, facts.as_slice())? {
         Some((End::Quiet, _)) => Ok(()),
         Some((end, steps)) => {
             explain_end(rt, end, steps)?;

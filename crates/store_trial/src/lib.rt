@@ -45,7 +45,7 @@ mod chains_tests {
     use std::process::Abort;
 
     /// A new store over a table of so many rows.
-    // A second helper: one for both would need a trait for a table's blank row, `check` and `new`, longer than what it saves.
+    // A second function: one for both would need a trait for a table's blank row, `check` and `new`, longer than what it saves.
     fn try_chains<const SIZE: usize>(rt: &impl Abort)
         requires { SIZE ≤ 1024 }
     {

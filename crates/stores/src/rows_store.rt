@@ -3,7 +3,7 @@ ghost use Rattle.std.specs.Prelude.{◌≡◌, ◌≤◌, ◌<◌, ◌+◌, ◌-
 ghost use Rattle.std.specs.Fn.{ComputesKey};
 ghost use Rattle.stores.specs.Store.{of_kind_with, pair_answer};
 ghost use Rattle.stores.specs.Table.{pairs_of, pile_of};
-ghost use Rattle.stores.specs.Scans.{rank, row_passes, first_label, fact_under, with_row, without_row};
+ghost use Rattle.stores.specs.Scans.{rank, first_label, fact_under, with_row, without_row};
 
 use crate::fault_types::StoreFault;
 use crate::row_types::Row;
@@ -39,18 +39,10 @@ fn first_that<T: Fn(&Fact) -> bool>(rows: &[Row], test: T) -> Option<u32>
     requires { T.IsAlwaysCallable test }
     ensures { (p : Fact → Bool) → ComputesKey T.FnMut p test → result ≡ first_label p rows.now }
 {
-    let row = rows.iter().find(
-        |row| -> bool
-            requires { T.IsAlwaysCallable test }
-            ensures { (p : Fact → Bool) → ComputesKey T.FnMut p test → result ≡ row_passes p row.now.now }
-        {
-            // By hand: with `is_some_and` a closure would stand in this one, and need a contract of its own, as long as this one's.
-            match row {
-                Some((_, fact)) => test(fact),
-                None => false,
-            }
-        },
-    )?;
+    // Not over `flatten`: tried, a job of 500 facts took 7 in 100 more instructions.
+    let row = rows
+        .iter()
+        .find(|row| matches!(row, Some((_, fact)) if test(fact)))?;
     let (label, _) = (*row)?;
     Some(label)
 }

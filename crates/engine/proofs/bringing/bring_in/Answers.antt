@@ -10,10 +10,10 @@ push_looks-requires-clause-room g c =
 
 pub push_waits-requires-clause-room : goal.push_waits-requires-clause-room
 push_waits-requires-clause-room g c =
-    waits_fit (closed_rules c.args.set.now) c.args.facts.now c.args.first c.store_watched-next.result c.args.goals.now c.args.goals.now c.push_looks.new.goals c.store_watched-next.ensures.next refl c.push_looks.ensures c.requires.goals
+    waits_fit (closed_rules c.args.set.now) c.args.facts.now c.args.next.now c.store_watched.new.next c.args.goals.now c.args.goals.now c.push_looks.new.goals c.store_watched.ensures.next refl c.push_looks.ensures c.requires.goals
 
 pub returns-clause-state : goal.returns-clause-state
 returns-clause-state g c =
     let m = g.S.Store.meaning in
     let rs = closed_rules c.args.set.now in
-    brought rs rs c.args.facts.now (m c.args.store.now) (m c.store_watched-next.new.store) c.args.first c.store_watched-next.result c.args.goals.now c.args.goals.now c.push_looks.new.goals c.push_waits.new.goals c.store_watched-next.ensures.store c.store_watched-next.ensures.next refl c.push_looks.ensures refl c.push_waits.ensures
+    brought rs rs c.args.facts.now (m c.args.store.now) (m c.store_watched.new.store) c.args.next.now c.store_watched.new.next c.args.goals.now c.args.goals.now c.push_looks.new.goals c.push_waits.new.goals c.store_watched.ensures.store c.store_watched.ensures.next refl c.push_looks.ensures refl c.push_waits.ensures

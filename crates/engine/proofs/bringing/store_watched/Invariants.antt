@@ -8,4 +8,4 @@ invariant-loop-fact g l =
     let rules = closed_rules l.set in
     let was = g.S.Store.meaning l.initial.store in
     let now = g.S.Store.meaning l.store in
-    (1 ≤ l.next) × IsStoredTo rules l.facts l.fact-index was now l.first l.next
+    (1 ≤ l.next) × IsStoredTo rules l.facts l.fact-index was now l.initial.next l.next

@@ -1,30 +1,35 @@
-use Rattle.std.proofs.Common.{sym, ◌∙◌}
+use Rattle.std.proofs.Common.{ℕ, List, sym, ap, subst, ◌∙◌}
+use Rattle.std.specs.Option.{option_map}
+use Rattle.lists.specs.Held.{held}
+use Rattle.rules.specs.Rules.{rule_seen}
+use Rattle.engine.specs.Searching.{IsPartial}
 use Rattle.engine.proofs.SearchOrder.{owed-rising}
 use Rattle.engine.proofs.SearchCalls.{search_unbound, search_lonely, search_partial, search_found}
 use Rattle.engine.proofs.search.search.Goals as goal
 
-pub returns-in_err-letters : goal.returns-in_err-letters
-returns-in_err-letters g c =
+pub returns-in_err-bind_fact : goal.returns-in_err-bind_fact
+returns-in_err-bind_fact g c =
     rw c.from_residual.ensures
     (search_unbound g.W.Words.system c.args.rule.now c.args.place c.args.active (g.S.Store.meaning c.args.store.now).pairs c.args.fact.now
     c.as_slice.result.now c.as_slice.ensures.items c.requires.place c.requires.stands c.requires.held (owed-rising (g.S.Store.meaning c.args.store.now) (g.S.Store.owed c.args.store.now))
-    (sym c.bind_fact.ensures ∙ c.in_err-letters.was))
+    (sym c.bind_fact.ensures ∙ ap (option_map (λ u. c.bind_fact.new.letters)) c.in_err-bind_fact.was))
 
 pub returns-then-not-all_have_candidates : goal.returns-then-not-all_have_candidates
 returns-then-not-all_have_candidates g c =
     search_lonely g.W.Words.system c.args.rule.now c.args.place c.args.active (g.S.Store.meaning c.args.store.now).pairs c.args.fact.now
     c.as_slice.result.now c.as_slice.ensures.items c.requires.place c.requires.stands c.requires.held (owed-rising (g.S.Store.meaning c.args.store.now) (g.S.Store.owed c.args.store.now))
-    c.in_ok-letters.letters (sym c.bind_fact.ensures ∙ c.in_ok-letters.was)
+    c.bind_fact.new.letters (sym c.bind_fact.ensures ∙ ap (option_map (λ u. c.bind_fact.new.letters)) c.in_ok-bind_fact.was)
     (sym c.if-not-all_have_candidates.ensures)
 
-pub search_from-requires-clause-partial : goal.search_from-requires-clause-partial
-search_from-requires-clause-partial g c =
-    search_partial g.W.Words.system c.args.rule.now c.args.place c.args.active (g.S.Store.meaning c.args.store.now).pairs c.args.fact.now
+pub search_from-requires : goal.search_from-requires
+search_from-requires g c =
+    subst (λ (ls : List ℕ). IsPartial (g.S.Store.meaning c.args.store.now).pairs (rule_seen c.args.rule.now) c.args.place c.args.active ls c.bind_fact.new.letters) (sym c.new.ensures)
+    (search_partial g.W.Words.system c.args.rule.now c.args.place c.args.active (g.S.Store.meaning c.args.store.now).pairs c.args.fact.now
     c.as_slice.result.now c.as_slice.ensures.items c.requires.place c.requires.stands c.requires.held (owed-rising (g.S.Store.meaning c.args.store.now) (g.S.Store.owed c.args.store.now))
-    c.in_ok-letters.letters (sym c.bind_fact.ensures ∙ c.in_ok-letters.was)
+    c.bind_fact.new.letters (sym c.bind_fact.ensures ∙ ap (option_map (λ u. c.bind_fact.new.letters)) c.in_ok-bind_fact.was))
 
 pub returns : goal.returns
 returns g c =
     search_found g.W.Words.system c.args.rule.now c.args.place c.args.active (g.S.Store.meaning c.args.store.now).pairs c.args.fact.now
     c.as_slice.result.now c.as_slice.ensures.items c.requires.place c.requires.stands c.requires.held (owed-rising (g.S.Store.meaning c.args.store.now) (g.S.Store.owed c.args.store.now))
-    c.search_from.result c.search_from.ensures
+    (held c.new.result) c.new.ensures c.search_from.result c.search_from.ensures

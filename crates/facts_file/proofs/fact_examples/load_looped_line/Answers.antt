@@ -1,15 +1,14 @@
-use Rattle.std.proofs.Common.{List, ap, ◌∙◌}
-use Rattle.facts.specs.declared.fact_types.Fact.{Fact}
-use Rattle.facts_file.specs.Facts.{over}
-use Rattle.facts_file.proofs.FactExamples.{files_of_facts, looped-count, looped-facts}
+use Rattle.std.proofs.Common.{List, ℕ, Some, ap, ◌∙◌}
+use Rattle.facts.specs.Lengths.{lengths}
+use Rattle.lists.specs.Held.{held}
+use Rattle.facts_file.specs.Facts.{facts_file}
+use Rattle.facts_file.specs.FactExamples.{looped_line}
+use Rattle.facts_file.proofs.FactExamples.{files_of_facts}
+use Rattle.facts_file.proofs.FactLoads.{accepted}
 use Rattle.facts_file.proofs.fact_examples.load_looped_line.Goals as goal
 
 pub returns : goal.returns
 returns c =
-    let bs = c.looped_line_file.result.now in
-    let is = c.looped_line_file.ensures in
-    record {
-      answer = c.load_facts.ensures.answer ∙ looped-count bs is;
-      table = c.load_facts.ensures.table ∙ ap (λ (x : List Fact). over x c.args.table.now) (looped-facts bs is);
-      computed = files_of_facts;
-    }
+    let read = c.load_facts.ensures.answer ∙ ap (λ (bs : List ℕ). facts_file lengths.valid (Some bs)) c.looped_line_file.ensures ∙ files_of_facts.looped in
+    let is = accepted c.load_facts.result (held c.load_facts.new.facts) looped_line read in
+    record { answer = is.0; facts = is.1; computed = files_of_facts }

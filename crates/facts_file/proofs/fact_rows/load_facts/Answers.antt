@@ -1,20 +1,40 @@
-use Rattle.std.proofs.Common.{Err}
+use Rattle.std.proofs.Common.{◌≤◌, Ok, Err, length, arith}
 use Rattle.std.specs.Option.{option_map}
 use Rattle.std.proofs.lemmas.Result.{err_from_is_err_and}
+use Rattle.std.proofs.lemmas.Bool.Decides.{nat_tests}
+use Rattle.lists.specs.Held.{held}
 use Rattle.facts_file.specs.FactRefusals.{fact_refusal}
-use Rattle.facts_file.proofs.FactLoads.{short_loaded, refused_loaded}
-use Rattle.rows.proofs.Outcomes.{bytes-there}
+use Rattle.facts_file.proofs.FactLoads.{loading_more, loading_refused, loading_all, made_shorter, loaded_so}
+use Rattle.facts_file.proofs.Named.{answer-named}
 use Rattle.facts_file.proofs.fact_rows.load_facts.Goals as goal
 
-pub returns-in_err-load_rows : goal.returns-in_err-load_rows
-returns-in_err-load_rows g c =
-    let p = err_from_is_err_and c.from_residual-in_err-load_rows.result c.from_residual-in_err-load_rows.ensures.1 in
-    let there = bytes-there (option_map (λ x. x.now) c.args.file) c.in_ok-bytes.bytes.now c.in_ok-bytes.ensures in
-    let r = short_loaded g.W.Words.system.valid (option_map (λ x. x.now) c.args.file) c.in_ok-bytes.bytes.now c.args.table.now c.load_rows.new.table (Err (fact_refusal c.in_err-load_rows.field-0.0)) there.0 there.1 c.in_err-load_rows.ensures.answer c.in_err-load_rows.ensures.table in
-    rw (p.1, p.2) (record { answer = r.0; table = r.1; bound = tt; named = r.2; loaded = r.3 })
+pub returns-in_err-fact : goal.returns-in_err-fact
+returns-in_err-fact g c =
+    let p = err_from_is_err_and c.from_residual-in_err-fact.result c.from_residual-in_err-fact.ensures.1 in
+    let valid = g.W.Words.system.valid in
+    let file = option_map (λ x. x.now) c.args.file in
+    let facts = held c.loop-rest.facts in
+    let refused = fact_refusal c.in_err-fact.field-0.0 in
+    let some : 1 ≤ length c.loop-rest.rest.now = let e = c.loop-rest-test.ensures in grind (arith, nat_tests) in
+    let r = loading_refused valid file facts c.loop-rest.rest.now c.loop-rest.invariant refused some (rw c.len.ensures.count at c.in_err-fact.ensures.step) in
+    rw (p.1, p.2) (record { answer = r.0; facts = r.1; named = answer-named valid file (Err refused) facts r.0; loaded = loaded_so valid file (Err refused) facts r.0 })
+
+pub loop-rest-smaller : goal.loop-rest-smaller
+loop-rest-smaller g c =
+    let some : 1 ≤ length c.loop-rest.rest.now = let e = c.loop-rest-test.ensures in grind (arith, nat_tests) in
+    made_shorter g.W.Words.system.valid _ c.loop-rest.rest.now c.in_ok-fact.fact c.in_ok-fact.more.now some c.in_ok-fact.ensures.step
+
+pub loop-rest-preserved : goal.loop-rest-preserved
+loop-rest-preserved g c =
+    let some : 1 ≤ length c.loop-rest.rest.now = let e = c.loop-rest-test.ensures in grind (arith, nat_tests) in
+    rw c.push.ensures
+    (loading_more g.W.Words.system.valid (option_map (λ x. x.now) c.args.file) (held c.loop-rest.facts) c.loop-rest.rest.now c.loop-rest.invariant c.in_ok-fact.fact c.in_ok-fact.more.now some (rw c.len.ensures.count at c.in_ok-fact.ensures.step))
 
 pub returns : goal.returns
 returns g c =
-    let there = bytes-there (option_map (λ x. x.now) c.args.file) c.in_ok-bytes.bytes.now c.in_ok-bytes.ensures in
-    let r = short_loaded g.W.Words.system.valid (option_map (λ x. x.now) c.args.file) c.in_ok-bytes.bytes.now c.args.table.now c.load_rows.new.table _ there.0 there.1 c.in_ok-load_rows.ensures.answer c.in_ok-load_rows.ensures.table in
-    record { answer = r.0; table = r.1; bound = c.in_ok-load_rows.ensures.bound; named = r.2; loaded = r.3 }
+    let valid = g.W.Words.system.valid in
+    let file = option_map (λ x. x.now) c.args.file in
+    let facts = held c.loop-rest.facts in
+    let none : length c.loop-rest.rest.now ≤ 0 = let e = c.loop-rest-test.ensures in grind (arith, nat_tests) in
+    let r = loading_all valid file facts c.loop-rest.rest.now c.loop-rest.invariant none in
+    record { answer = r.0; facts = r.1; named = tt; loaded = loaded_so valid file (Ok tt) facts r.0 }

@@ -1,8 +1,8 @@
-use Rattle.std.proofs.Common.{◌≡◌, ◌<◌, length, take, ℤ, Ok, refl, ap, ◌∙◌, arith, length-set, w64, to_z, of_z, rules}
+use Rattle.std.proofs.Common.{◌≡◌, ◌<◌, length, take, ℤ, Ok, ap, ◌∙◌, arith, length-set, w64, to_z, of_z, rules}
 use Rattle.std.proofs.lemmas.List.{take_more_set}
 use Rattle.std.proofs.lemmas.Result.{err_from_is_err_and}
 use Rattle.rows.specs.Fields.{field_seen}
-use Rattle.facts_file.proofs.FactRows.{words-none, words-broken, words-refused, words_more, words-all}
+use Rattle.facts_file.proofs.FactRows.{words-broken, words-refused, words_more, words-all}
 use Rattle.rows.proofs.Outcomes.{or_err}
 use Rattle.facts_file.proofs.fact_rows.read_words.Goals as goal
 

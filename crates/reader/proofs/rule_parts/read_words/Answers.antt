@@ -1,11 +1,11 @@
-use Rattle.std.proofs.Common.{◌+◌, [], get_or, take, Ok, sym, refl, ap, ◌∙◌, subst, arith}
-use Rattle.std.proofs.lemmas.List.{length-set, take_more_set, take_all}
+use Rattle.std.proofs.Common.{◌+◌, [], get_or, take, sym, ◌∙◌, subst, arith}
+use Rattle.std.proofs.lemmas.List.{length-set, take_more_set}
 use Rattle.std.proofs.lemmas.Result.{err_from_is_err_and}
 use Rattle.rules_file.specs.RuleRefusals.{row_refusal}
 use Rattle.rules_file.specs.RuleRows.{words_from}
 use Rattle.reader.specs.RuleScan.{cells}
 use Rattle.reader.proofs.RuleCells.{cells_six}
-use Rattle.reader.proofs.RuleLoops.{JudgedSoFar, judged-none, judged-more, judged_stops, judged-all, word_at, words_count, judged-here}
+use Rattle.reader.proofs.RuleLoops.{JudgedSoFar, judged-more, judged_stops, word_at, words_count, judged-here}
 use Rattle.reader.proofs.rule_parts.read_words.Goals as goal
 
 pub returns-in_err-word : goal.returns-in_err-word

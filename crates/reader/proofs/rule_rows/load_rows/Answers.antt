@@ -15,13 +15,13 @@ returns-in_err-cells g c =
     let six = c.in_err-cells.ensures in
     rw (p.1, p.2) (ap (λ (x : RowFault). Err (row_refusal x)) six.0 ∙ row-refused g.W.Words.system.valid c.args.bytes.now (stage_seen c.loop-rest.stage) c.loop-rest.row c.loop-rest.rest.now c.loop-rest.invariant.0 some six.1)
 
-pub returns-in_err-stage : goal.returns-in_err-stage
-returns-in_err-stage g c =
-    let p = err_from_is_err_and c.from_residual-in_err-stage.result c.from_residual-in_err-stage.ensures.1 in
+pub returns-in_err-write_row : goal.returns-in_err-write_row
+returns-in_err-write_row g c =
+    let p = err_from_is_err_and c.from_residual-in_err-write_row.result c.from_residual-in_err-write_row.ensures.1 in
     let some : 1 ≤ length c.loop-rest.rest.now = let e = c.loop-rest-test.ensures in grind (arith, nat_tests) in
-    rw (p.1, p.2) (word-refused g.W.Words.system.valid c.args.bytes.now (stage_seen c.loop-rest.stage) c.loop-rest.row c.loop-rest.rest.now c.loop-rest.invariant.0 some c.in_ok-cells.cells c.in_ok-cells.more.now c.in_ok-cells.ensures (row_refusal c.in_err-stage.field-0.0) c.in_err-stage.ensures.step)
+    rw (p.1, p.2) (word-refused g.W.Words.system.valid c.args.bytes.now (stage_seen c.loop-rest.stage) c.loop-rest.row c.loop-rest.rest.now c.loop-rest.invariant.0 some c.in_ok-cells.cells c.in_ok-cells.more.now c.in_ok-cells.ensures (row_refusal c.in_err-write_row.field-0.0) c.in_err-write_row.ensures.step)
 
-some_left : (g : given.Over) (c : goal.In_ok-stage g) → 1 ≤ length c.loop-rest.rest.now
+some_left : (g : given.Over) (c : goal.In_ok-write_row g) → 1 ≤ length c.loop-rest.rest.now
 some_left g c = let e = c.loop-rest-test.ensures in grind (arith, nat_tests)
 
 pub loop-rest-smaller : goal.loop-rest-smaller
@@ -29,7 +29,7 @@ loop-rest-smaller g c = row-less g.W.Words.system.valid c.args.bytes.now (stage_
 
 pub loop-rest-preserved : goal.loop-rest-preserved
 loop-rest-preserved g c =
-    (word-written g.W.Words.system.valid c.args.bytes.now (stage_seen c.loop-rest.stage) c.loop-rest.row c.loop-rest.rest.now c.loop-rest.invariant.0 (some_left g c) c.in_ok-cells.cells c.in_ok-cells.more.now c.in_ok-cells.ensures (stage_seen c.in_ok-stage.stage) c.in_ok-stage.ensures.step, c.in_ok-stage.ensures.begun)
+    (word-written g.W.Words.system.valid c.args.bytes.now (stage_seen c.loop-rest.stage) c.loop-rest.row c.loop-rest.rest.now c.loop-rest.invariant.0 (some_left g c) c.in_ok-cells.cells c.in_ok-cells.more.now c.in_ok-cells.ensures (stage_seen c.write_row.new.self) c.in_ok-write_row.ensures.step, c.in_ok-write_row.ensures.begun)
 
 pub returns-in_err-end_rule : goal.returns-in_err-end_rule
 returns-in_err-end_rule g c =

@@ -5,11 +5,6 @@ use Rattle.chains.proofs.Tables.{link-at}
 use Rattle.chains.proofs.Changes.{read-absent, ways, number-of, stage_all, stage_more, free-row, added_pile, added}
 use Rattle.chains.proofs.chain_types.LinkedTable.add.Goals as goal
 
-pub link_in-requires-clause-free : goal.link_in-requires-clause-free
-link_in-requires-clause-free c =
-    let r = free-row c.args.self.now.table.now c.args.self.now.table.now c.args.self.now.heads c.args.self.now.heads c.args.i c.args.pair.0 c.args.pair.1 c.requires.chained c.requires.pair c.requires.new c.requires.first in
-    rw c.loop-way.invariant.rows r.0
-
 pub link_in-requires-clause-new : goal.link_in-requires-clause-new
 link_in-requires-clause-new c = rw c.loop-way.invariant.rows (read-absent c.args.pair.0 (rows_of c.args.self.now.table.now) c.requires.new)
 

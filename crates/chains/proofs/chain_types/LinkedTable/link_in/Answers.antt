@@ -1,13 +1,10 @@
-use Rattle.std.proofs.Common.{subst, sym, refl, get_or}
+use Rattle.std.proofs.Common.{subst, refl, get_or}
 use Rattle.chains.proofs.Pointing.{pointed_at, points_fits, linked_in, leaves_in}
-use Rattle.chains.specs.Rows.{rows_of, links_of, heads_of, chain_at, Walkable}
+use Rattle.chains.specs.Rows.{rows_of, links_of, heads_of, chain_at}
 use Rattle.chains.proofs.Tables.{Relink}
 use Rattle.chains.specs.Links.{Place}
 use Rattle.chains.specs.declared.chain_types.Way.{Way}
 use Rattle.chains.proofs.chain_types.LinkedTable.link_in.Goals as goal
-
-pub place-spot-requires : goal.place-spot-requires
-place-spot-requires c = subst (λ (w : Way). Walkable w c.args.self.now.table.now c.args.self.now.heads) (sym c.chain_at-chain.ensures.way) c.requires.walkable
 
 pub returns : goal.returns
 returns c =

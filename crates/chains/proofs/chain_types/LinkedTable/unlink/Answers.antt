@@ -1,6 +1,6 @@
 use Rattle.std.proofs.Common.{◌-◌, ℕ, Option, sym, subst, ◌∙◌, arith}
 use Rattle.std.proofs.lemmas.Bool.Decides.{nat_tests}
-use Rattle.chains.specs.Rows.{rows_of, links_of, heads_of, chain_at, Walkable}
+use Rattle.chains.specs.Rows.{rows_of, links_of, heads_of, chain_at}
 use Rattle.chains.specs.Acts.{Pointed}
 use Rattle.chains.proofs.Named.{used-within, used-sound}
 use Rattle.chains.proofs.Tables.{link-at, rows-length}
@@ -13,9 +13,6 @@ pub overflow_sub-pair : goal.overflow_sub-pair
 overflow_sub-pair c =
     let s = used-sound (rows_of c.args.self.now.table.now) c.args.i c.args.pair.now.0 c.args.pair.now.1 c.requires.walkable.apart c.requires.walkable.kept c.requires.row in
     grind (arith, nat_tests)
-
-pub place-before-requires : goal.place-before-requires
-place-before-requires c = subst (λ (w : Way). Walkable w c.args.self.now.table.now c.args.self.now.heads) (sym c.chain_at-chain.ensures.way) c.requires.walkable
 
 pub returns : goal.returns
 returns c =

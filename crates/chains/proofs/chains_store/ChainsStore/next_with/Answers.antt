@@ -1,27 +1,14 @@
-use Rattle.std.proofs.Common.{◌≡◌, true, ℕ, ℤ, w64, to_z, of_z, sym, ap, subst, ◌∙◌, arith}
+use Rattle.std.proofs.Common.{ℤ, w64, to_z, of_z, sym, ap, ◌∙◌, arith}
 use Rattle.std.proofs.lemmas.Int.{to_z-of_z}
 use Rattle.stores.specs.Store.{next_with}
 use Rattle.stores.specs.Table.{pairs_of}
-use Rattle.chains.specs.Links.{points, next_in, on_chain}
-use Rattle.chains.specs.Rows.{rows_of, links_of, heads_of, chain_at}
+use Rattle.chains.specs.Rows.{rows_of, links_of, heads_of}
 use Rattle.chains.specs.Acts.{asked_label}
-use Rattle.chains.specs.declared.chain_types.Way.{Way}
 use Rattle.chains.specs.declared.chain_types.Way.TheVariants.{ByWord}
 use Rattle.chains.proofs.Named.{points-within}
-use Rattle.chains.proofs.Tables.{rows-length, walkable, row-lent}
-use Rattle.chains.proofs.Answered.{asking_begin, asking_at, asking_end, asked_answer, asked_on}
+use Rattle.chains.proofs.Tables.{rows-length, row-lent}
+use Rattle.chains.proofs.Answered.{asking_at, asking_end, asked_answer, asked_on}
 use Rattle.chains.proofs.chains_store.ChainsStore.next_with.Goals as goal
-
-pub place-at-requires : goal.place-at-requires
-place-at-requires c = walkable c.args.self.now.linked.table.now c.args.self.now.linked.heads c.args.self.now.chained c.chain_of-chain.result.way
-
-pub loop-at-init : goal.loop-at-init
-loop-at-init c =
-    let R = rows_of c.args.self.now.linked.table.now in
-    let w = to_z w64 (of_z w64 c.args.word) in
-    let q = subst (λ (x : Way). points R c.place-at.result.at (next_in (on_chain (chain_at x) c.chain_of-chain.result.number) c.args.above (pairs_of R)) ≡ true) c.chain_of-chain.ensures.way c.place-at.ensures.next in
-    let p = subst (λ (n : ℕ). points R c.place-at.result.at (next_in (on_chain (chain_at ByWord) n) c.args.above (pairs_of R)) ≡ true) c.chain_of-chain.ensures.number q in
-    (c.args.above, asking_begin c.args.kind w c.args.above c.place-at.result.at R p)
 
 pub bounds-table-i : goal.bounds-table-i
 bounds-table-i c =

@@ -1,4 +1,4 @@
-use Rattle.std.proofs.Common.{Some, None, List, [], Option, map, flat_map, take, refl, arith, rules}
+use Rattle.std.proofs.Common.{Some, None, List, [], Option, map, flat_map, refl, arith, rules}
 use Rattle.std.proofs.lemmas.List.{length-map}
 use Rattle.lists.specs.Held.{held}
 use Rattle.lists.proofs.Held.{held-count}
@@ -21,7 +21,7 @@ pub returns-in_err-give_each : goal.returns-in_err-give_each
 returns-in_err-give_each g c =
     let s = g.W.Words.system in
     let σ = setting_in c.args.self.choice.now.letters in
-    let chosen = take c.args.self.rule.now.singles.count c.args.self.choice.now.labels in
+    let chosen = held c.args.self.choice.now.labels in
     let m = g.S.Store.meaning c.args.store.now in
     let r = rule_seen c.args.self.rule.now in
     let gives : List Template → List (Option Fact) = map (given s σ []) in
@@ -31,7 +31,7 @@ returns-in_err-give_each g c =
 
 pub give_all-requires-clause-held : goal.give_all-requires-clause-held
 give_all-requires-clause-held g c =
-    let chosen = take c.args.self.rule.now.singles.count c.args.self.choice.now.labels in
+    let chosen = held c.args.self.choice.now.labels in
     took_held g.W.Words.system (setting_in c.args.self.choice.now.letters) (rule_seen c.args.self.rule.now) chosen (g.S.Store.meaning c.args.store.now) c.args.taken.now c.requires
 
 pub give_all-requires-clause-few : goal.give_all-requires-clause-few
@@ -53,7 +53,7 @@ pub returns : goal.returns
 returns g c =
     let s = g.W.Words.system in
     let σ = setting_in c.args.self.choice.now.letters in
-    let chosen = take c.args.self.rule.now.singles.count c.args.self.choice.now.labels in
+    let chosen = held c.args.self.choice.now.labels in
     let m = g.S.Store.meaning c.args.store.now in
     let r = rule_seen c.args.self.rule.now in
     let gives : List Template → List (Option Fact) = map (given s σ []) in

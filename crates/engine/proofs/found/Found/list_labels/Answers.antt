@@ -1,10 +1,11 @@
-use Rattle.std.proofs.Common.{◌≡◌, take, length, ap, ◌∙◌, ◌+◌, arith, rules}
+use Rattle.std.proofs.Common.{◌≡◌, length, ap, ◌∙◌, ◌+◌, arith, rules}
+use Rattle.lists.specs.Held.{held}
 use Rattle.engine.proofs.ApplyLists.{written-step}
 use Rattle.engine.proofs.found.Found.list_labels.Goals as goal
 
 pub loop-labels-preserved : goal.loop-labels-preserved
 loop-labels-preserved c =
-    let chosen = take c.args.self.rule.now.singles.count c.args.self.choice.now.labels in
+    let chosen = held c.args.self.choice.now.labels in
     let wide : length c.args.taken.now ≡ 2 = search rules in
     let l = c.loop-labels in
     let more = written-step chosen c.args.list.now l.list c.write_labels-end-in-loop-labels.new.list c.args.taken.now l.labels-index l.end c.labels-item.result c.as_slice.result.now

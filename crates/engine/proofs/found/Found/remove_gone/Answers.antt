@@ -24,7 +24,7 @@ loop-all-preserved-then-all g c =
 pub returns : goal.returns
 returns g c =
     let r = c.args.self.rule.now in
-    let ls = c.args.self.choice.now.labels in
+    let ls = held c.args.self.choice.now.labels in
     let s = c.loop-all.all-iterator in
     let was = g.S.Store.meaning c.args.store.now in
     let now = g.S.Store.meaning c.loop-all.store in

@@ -1,4 +1,5 @@
-use Rattle.std.proofs.Common.{take, arith}
+use Rattle.std.proofs.Common.{arith}
+use Rattle.lists.specs.Held.{held}
 use Rattle.rules.specs.Rules.{rule_seen}
 use Rattle.engine.specs.Letters.{setting_in}
 use Rattle.engine.specs.Taking.{all_taken}
@@ -7,7 +8,7 @@ use Rattle.engine.proofs.found.Found.take_all.Goals as goal
 
 pub loop-index-preserved : goal.loop-index-preserved
 loop-index-preserved g c =
-    let chosen = take c.args.self.rule.now.singles.count c.args.self.choice.now.labels in
+    let chosen = held c.args.self.choice.now.labels in
     let ts = all_taken g.W.Words.system (setting_in c.args.self.choice.now.letters) (rule_seen c.args.self.rule.now) chosen (g.S.Store.meaning c.args.store.now).pairs in
     let l = c.loop-index in
     let more = took-more l.taken l.index _ ts l.invariant.wide (omega (arith, c.loop-index-test.true, l.invariant.wide)) l.invariant.took c.take_at.ensures in

@@ -8,6 +8,6 @@ use Rattle.engine.proofs.found.Found.take_all.Given as goal
 
 abbrev pub invariant-loop-index : goal.invariant-loop-index
 invariant-loop-index g l =
-    let chosen = take l.self.rule.now.singles.count l.self.choice.now.labels in
+    let chosen = held l.self.choice.now.labels in
     let ts = all_taken g.W.Words.system (setting_in l.self.choice.now.letters) (rule_seen l.self.rule.now) chosen (g.S.Store.meaning l.store).pairs in
     record { wide : length l.taken ≡ 2; took : map held (take l.index l.taken) ≡ take l.index (map labels (two ts)) }

@@ -1,15 +1,24 @@
-use Rattle.std.proofs.Common.{◌≡◌, Some, Err, Result, sym, ap, ◌∙◌, arith}
+use Rattle.std.proofs.Common.{◌≡◌, Err, Result, ap, ◌∙◌, arith}
 use Rattle.std.specs.Result.{result_ok}
-use Rattle.std.specs.Option.{ok_or}
 use Rattle.stores.specs.Lists.{has}
 use Rattle.machine.specs.declared.answer_types.StepFault.{StepFault}
 use Rattle.machine.specs.declared.answer_types.StepFault.TheVariants as fault
+use Rattle.rules.specs.Closed.{heads_of}
 use Rattle.rules.specs.Sets.{closed_rules}
+use Rattle.rules.proofs.Records.{singles-count}
+use Rattle.engine.specs.Applying.{rule_at}
 use Rattle.rules.specs.Writing.{no_parts}
-use Rattle.engine.proofs.ApplyWeighed.{at-mem, weighing_is, took-is, given-body, given-few, refused-body, removed-few, refused_room, ready}
+use Rattle.engine.proofs.ApplyWeighed.{at-mem, whole-chosen, weighing_is, took-is, given-body, given-few, removed-few, refused_room, ready}
 use Rattle.engine.proofs.Rooms.{room_full, room_free}
 use Rattle.std.proofs.lemmas.Result.{err_from_is_err_and}
 use Rattle.engine.proofs.job_type.Job.weigh.Goals as goal
+
+pub invariant_of-found : goal.invariant_of-found
+invariant_of-found g c =
+    let j = c.args.self.now in
+    let p = c.args.place in
+    let n = whole-chosen g.W.Words.system (rule_at (closed_rules j.set) p) p.place c.args.active (g.S.Store.meaning j.store).pairs c.args.choice.now c.requires.found in
+    record { whole = omega (arith, n, singles-count c.rule_of-rule.result.now, ap heads_of c.rule_of-rule.ensures.record) }
 
 pub room_for_body-requires-clause-removed : goal.room_for_body-requires-clause-removed
 room_for_body-requires-clause-removed g c =

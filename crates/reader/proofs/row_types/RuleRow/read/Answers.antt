@@ -1,6 +1,6 @@
-use Rattle.std.proofs.Common.{◌<◌, length, take, refl, ◌∙◌, arith, length-set}
+use Rattle.std.proofs.Common.{◌<◌, length, take, ◌∙◌, arith, length-set}
 use Rattle.rows.specs.Fields.{field_seen}
-use Rattle.reader.proofs.RuleCells.{contents, texts_none, texts-broken, texts-more, texts-all, contents_more}
+use Rattle.reader.proofs.RuleCells.{contents, texts-broken, texts-more, texts-all, contents_more}
 use Rattle.reader.proofs.row_types.RuleRow.read.Goals as goal
 
 pub returns-in_err-field : goal.returns-in_err-field
