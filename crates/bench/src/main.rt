@@ -1,5 +1,5 @@
-//! `bench STORE RULES FACTS`: runs a job over the store that is named, `rows` or `chains`, and prints its rows. It is run by hand, to count
-//! the instructions of one job over each store.
+//! `bench STORE RULES FACTS`: runs a job over the store that is named, `rows` or `chains`, and prints what `runplan` prints for the job. It is
+//! run by hand, to count the instructions of one job over each store.
 #![tactic(auto)]
 
 ghost use Rattle.std.specs.Prelude.{◌≡◌};
@@ -27,7 +27,7 @@ impl From<io::Error> for Failed {
 }
 
 // The job of two files over the store that is named.
-// Two arms: one for both would need a trait for a blank row and `new`, as in `store_trial`.
+// Two arms, as `store_trial` has two functions: one for both would need a trait for a blank row and `new`.
 fn run_over(rt: &HostRuntime, store: &str, rules: &str, facts: &str) -> Result<(), Failed> {
     let rules = fs::read(rt, rules).ok();
     let facts = fs::read(rt, facts).ok();

@@ -91,7 +91,7 @@ impl Store for Chains<'_> {
         Some(fact)
     }
 
-    /// There are as many chains as kinds, so all rows of the chain have the kind. Above the label of one of them it is not walked.
+    /// There are as many chains as kinds, so all rows of the chain have the kind. Above the label of a row of the chain, the chain is not walked.
     fn next(&self, kind: u8, above: u32) -> Option<u32> {
         if kind >= KINDS {
             return None;
@@ -106,7 +106,7 @@ impl Store for Chains<'_> {
     }
 
     /// The walk ends at the first row that fits, since behind it the labels are greater.
-    // By hand, as in `place`. Begun by `first_above`, the workload `shortest` took 324 million instructions in the place of 305.
+    // By hand, as in `place`. With its beginning by `first_above`, tried, the workload `shortest` took 6 in 100 more instructions.
     fn next_with(&self, kind: u8, word: i64, above: u32) -> Option<u32> {
         let chain = chain_of(Way::ByWord, 0, kind, word);
         let table = &*self.linked.table;

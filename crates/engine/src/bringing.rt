@@ -33,8 +33,8 @@ fn put_next<S: Store>(store: &mut S, next: &mut u32, fact: Fact)
 }
 
 // Those that are stored at once get the labels from the next one on.
-// By hand, in this file: each clause on room and labels ties several of what is lent, the store, the set, the facts, a label and the goals,
-// so no one's type can have it. That the next label is at least 1 is in the job's type, and asked where the label is lent alone.
+// By hand, in this file: whether there is room, and labels are left, changes with each call and is mostly of several that are lent, so no
+// type can have it. That the next label is at least 1 is in the job's type, and asked where the label is lent apart from the job.
 fn store_watched<W: Words, S: Store>(
     set: &ClosedSet<W>,
     store: &mut S,

@@ -103,7 +103,7 @@ impl<W: Words> Stage<W> {
     }
 
     // The body of the rule being written, which may begin with this row, and the number of its `rule` row. `write_body` adds to a body
-    // where it stands, so the last arm is there for the definition alone.
+    // where it stands, so the last arm is there for the contract alone.
     fn body(self, row: &RuleRow<'_>) -> Result<(RuleBody<W>, u32), RowFault>
         ensures { refused_as row_refusal (body_result result) ≡ in_rule row.now.row (stage_seen self) }
     {
