@@ -1,5 +1,5 @@
 -- The loader's loop: the list has the facts of the rows so far, and what is left gives the rest.
-use Rattle.std.proofs.Common.{◌≡◌, ℕ, suc, ◌+◌, ◌<◌, ◌≤◌, Bool, List, [], ◌∷◌, ◌++◌, length, ℤ, Some, None, Ok, Err, Option, sym, refl, ap, ◌∙◌, append_assoc, append-nil, length-append, arith}
+use Rattle.std.proofs.Common.{◌≡◌, ℕ, suc, ◌+◌, ◌<◌, ◌≤◌, Bool, List, [], ◌∷◌, ◌++◌, length, ℤ, Some, None, Ok, Err, Option, sym, refl, ap, ◌∙◌, append_assoc, append-nil, length-append, set, arith}
 use Rattle.facts.specs.declared.fact_types.Fact.{Fact}
 use Rattle.std.specs.Result.{result_and}
 use Rattle.facts_file.proofs.Facts.{file-read, file-was}
@@ -7,7 +7,7 @@ use Rattle.rows.proofs.Outcomes.{no_ok, same_ok, bind_ok}
 use Rattle.rows.proofs.Rows.{rows_step, rows_end, row_shorter}
 use Rattle.rows.specs.Csv.{Part, Read, got, broken, read_row, counted, Row, fields, malformed, behind_row, rows}
 use Rattle.rows.specs.Refusals.{Outcome, refusal, ◌>>=◌}
-use Rattle.facts_file.specs.Facts.{fact_row, fact_rows, fact_front, kept, facts_file, facts_before, FactsLoaded}
+use Rattle.facts_file.specs.Facts.{fact_row, fact_rows, fact_front, kept, facts_file, facts_before, over, FactsLoaded}
 use Rattle.facts_file.specs.FactScan.{row_then, fact_step}
 use Rattle.rows.specs.declared.refusal_types.Refusal.{Refusal}
 use Rattle.rows.specs.declared.refusal_types.Layer.TheVariants.{Reader}
@@ -17,9 +17,17 @@ abbrev pub facts_then : List Fact → Outcome (List Fact) → Outcome (List Fact
 facts_then fs (Ok gs) = Ok (fs ++ gs)
 facts_then fs (Err e) = Err e
 
-pub record Loading (valid : ℤ → Bool) (file : Option (List ℕ)) (facts : List Fact) (rest : List ℕ) : Type 0 where
+pub record Loading (valid : ℤ → Bool) (file : Option (List ℕ)) (facts items old : List Fact) (rest : List ℕ) : Type 0 where
+  pub kept : items ≡ over facts old
   pub outcome : facts_file valid file ≡ facts_then facts (fact_rows valid (length facts + 1) (rows rest))
   pub front : facts_before valid file ≡ facts ++ fact_front valid (length facts + 1) (rows rest)
+
+-- one fact more over the old entries
+pub over_one : (fs old : List Fact) (f : Fact) → length fs < length (over fs old) → set (over fs old) (length fs) f ≡ over (fs ++ (f ∷ [])) old
+over_one [] [] f few = absurd (omega (arith, few))
+over_one [] (o ∷ os) f few = refl
+over_one (g ∷ fs) [] f few = absurd (omega (arith, few, length-append fs []))
+over_one (g ∷ fs) (o ∷ os) f few = ap (λ (x : List Fact). g ∷ x) (over_one fs os f (omega (arith, few)))
 
 -- what one row does ---------------------------------------------------------------------------------------------
 
@@ -75,12 +83,13 @@ then_one : (fs : List Fact) (f : Fact) (r : Outcome (List Fact)) → facts_then 
 then_one fs f (Ok gs) = ap (λ (x : List Fact). Ok x) (sym (append_assoc fs (f ∷ []) gs))
 then_one fs f (Err e) = refl
 
-module _ (valid : ℤ → Bool) (file : Option (List ℕ)) (facts : List Fact) (rest : List ℕ) (inv : Loading valid file facts rest) where
-  pub loading_more : (f : Fact) (more : List ℕ) → 1 ≤ length rest → Ok (f, more) ≡ fact_step valid (length facts + 1) rest → Loading valid file (facts ++ (f ∷ [])) more
-  loading_more f more some h =
+module _ (valid : ℤ → Bool) (file : Option (List ℕ)) (facts items old : List Fact) (rest : List ℕ) (inv : Loading valid file facts items old rest) where
+  pub loading_more : (f : Fact) (more : List ℕ) → length facts < length items → 1 ≤ length rest → Ok (f, more) ≡ fact_step valid (length facts + 1) rest → Loading valid file (facts ++ (f ∷ [])) (set items (length facts) f) old more
+  loading_more f more room some h =
       let made = rows_made valid (length facts + 1) rest f more some h in
       let next : suc (length facts + 1) ≡ length (facts ++ (f ∷ [])) + 1 = omega (arith, length-append facts (f ∷ [])) in
       record {
+        kept = rw inv.kept (over_one facts old f (rw inv.kept at room));
         outcome =
             inv.outcome
             ∙ ap (facts_then facts) made.0
@@ -93,18 +102,19 @@ module _ (valid : ℤ → Bool) (file : Option (List ℕ)) (facts : List Fact) (
             ∙ ap (λ (n : ℕ). facts ++ (f ∷ []) ++ fact_front valid n (rows more)) next;
       }
 
-  pub loading_refused : (e : Refusal) → 1 ≤ length rest → Err e ≡ fact_step valid (length facts + 1) rest → (Err e ≡ facts_file valid file) × (facts ≡ facts_before valid file)
+  pub loading_refused : (e : Refusal) → 1 ≤ length rest → Err e ≡ fact_step valid (length facts + 1) rest → (Err e ≡ facts_file valid file) × (facts ≡ facts_before valid file) × (items ≡ over (facts_before valid file) old)
   loading_refused e some h =
-      let r = rows-refused valid (length facts + 1) rest e some h in (
-        sym (inv.outcome ∙ ap (facts_then facts) r.0),
-        sym (inv.front ∙ ap (λ (x : List Fact). facts ++ x) r.1 ∙ append-nil facts),
-      )
+      let r = rows-refused valid (length facts + 1) rest e some h in
+      let front = sym (inv.front ∙ ap (λ (x : List Fact). facts ++ x) r.1 ∙ append-nil facts) in
+      (sym (inv.outcome ∙ ap (facts_then facts) r.0), front, inv.kept ∙ ap (λ (x : List Fact). over x old) front)
 
-  pub loading_all : length rest ≤ 0 → (Ok facts ≡ facts_file valid file) × (facts ≡ facts_before valid file)
+  pub loading_all : length rest ≤ 0 → (Ok facts ≡ facts_file valid file) × (facts ≡ facts_before valid file) × (items ≡ over (facts_before valid file) old)
   loading_all none =
-      let end : rows rest ≡ [] = rows_end rest none in (
+      let end : rows rest ≡ [] = rows_end rest none in
+      let front = sym (inv.front ∙ ap (λ (x : List Row). facts ++ fact_front valid (length facts + 1) x) end ∙ append-nil facts) in (
         sym (inv.outcome ∙ ap (λ (x : List Row). facts_then facts (fact_rows valid (length facts + 1) x)) end ∙ ap (λ (x : List Fact). Ok x) (append-nil facts)),
-        sym (inv.front ∙ ap (λ (x : List Row). facts ++ fact_front valid (length facts + 1) x) end ∙ append-nil facts),
+        front,
+        inv.kept ∙ ap (λ (x : List Fact). over x old) front,
       )
 
 -- the whole file --------------------------------------------------------------------------------------------------

@@ -1,5 +1,5 @@
 -- facts.csv: from its bytes to the facts or the refusal. Each row is checked for 7, then 11, then its fields from left to right.
-use Rattle.std.specs.Prelude.{◌≡◌, ℕ, suc, ◌+◌, ◌<◌, ◌≤◌, Bool, true, cond, List, [], ◌∷◌, length, ℤ, pos, negsuc, Some, None, Ok, Err, Option, ◌==◌, nat_lt}
+use Rattle.std.specs.Prelude.{◌≡◌, ℕ, suc, ◌+◌, ◌<◌, ◌≤◌, Bool, true, cond, List, [], ◌∷◌, ◌++◌, length, drop, ℤ, pos, negsuc, Some, None, Ok, Err, Option, ◌==◌, nat_lt}
 use Rattle.facts.specs.declared.fact_types.Fact.{Fact}
 use Rattle.rows.specs.Csv.{Part, content, Row, fields, malformed, rows, Written}
 use Rattle.rows.specs.Numbers.{number, Decimal}
@@ -80,6 +80,10 @@ front_of valid bs = let read = fact_front valid 1 (rows bs) in cond (nat_lt most
 abbrev pub facts_before : (ℤ → Bool) → Option (List ℕ) → List Fact
 facts_before valid None = []
 facts_before valid (Some bs) = front_of valid bs
+
+-- the new entries over the beginning of the old ones
+abbrev pub over : List Fact → List Fact → List Fact
+over new old = new ++ drop (length new) old
 
 -- what it means: which rows are the writing of which facts ------------------------------------------------
 

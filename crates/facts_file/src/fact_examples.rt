@@ -1,6 +1,7 @@
 //! The worked example's file of facts, loaded; its contract has this and other files with what they come to.
 ghost use Rattle.std.specs.Prelude.{◌≡◌, Ok};
 ghost use Rattle.lists.specs.Held.{held};
+ghost use Rattle.facts_file.specs.Facts.{over};
 ghost use Rattle.facts_file.specs.FactExamples.{looped_line, looped_line_file, FilesOfFacts};
 
 use crate::fact_rows::{MOST_FACTS, load_facts};
@@ -18,6 +19,7 @@ fn looped_line_file() -> &'static [u8]
 pub fn load_looped_line(facts: &mut FixedList<Fact, MOST_FACTS>) -> Result<(), Refusal>
     ensures answer { result ≡ Ok tt }
     ensures facts { held facts.new ≡ looped_line }
+    ensures items { facts.new.items ≡ over looped_line facts.old.items }
     ensures computed { FilesOfFacts }
 {
     load_facts::<Lengths>(Some(looped_line_file()), facts)

@@ -7,7 +7,7 @@ ghost use Rattle.rows.specs.declared.refusal_types.Layer.TheVariants.{Reader};
 ghost use Rattle.std.specs.Option.{option_map};
 ghost use Rattle.std.specs.Result.{result_and};
 ghost use Rattle.lists.specs.Held.{held};
-ghost use Rattle.facts_file.specs.Facts.{words, most_facts, fact_kind, fact_word, facts_file, facts_before, FactsLoaded};
+ghost use Rattle.facts_file.specs.Facts.{words, most_facts, fact_kind, fact_word, facts_file, facts_before, over, FactsLoaded};
 ghost use Rattle.facts_file.specs.FactScan.{number_field, words_at, fact_at, fact_step, step_seen};
 
 use crate::fault_types::FactFault;
@@ -105,7 +105,7 @@ pub fn no_facts() -> FixedList<Fact, MOST_FACTS>
 }
 
 /// Reads the facts of a file into the list, whatever it had; none for the file is a file that is not there.
-/// Where the file is refused, the list has the facts of the rows before the one that is refused.
+/// Where the file is refused, the list has the facts of the rows before the one that is refused. Its array keeps what stood behind them.
 // By hand: the list numbers the rows, and an iterator of rows would count them once more.
 pub fn load_facts<W: Words>(
     file: Option<&[u8]>,
@@ -113,6 +113,7 @@ pub fn load_facts<W: Words>(
 ) -> Result<(), Refusal>
     ensures answer { result_and result (Ok (held facts.new)) ≡ facts_file W.Words.system.valid (option_map (λ x. x.now) file.entry) }
     ensures facts { held facts.new ≡ facts_before W.Words.system.valid (option_map (λ x. x.now) file.entry) }
+    ensures items { facts.new.items ≡ over (facts_before W.Words.system.valid (option_map (λ x. x.now) file.entry)) facts.old.items }
     ensures named { Named result }
     ensures loaded { FactsLoaded W.Words.system.valid (option_map (λ x. x.now) file.entry) result (held facts.new) }
 {

@@ -1,5 +1,5 @@
 //! What a list in an array answers, and how it grows and shrinks.
-ghost use Rattle.std.specs.Prelude.{◌≡◌, ◌≤◌, ◌∷◌, ◌++◌, ◌-◌, [], length, take, true, nat_lt, slice_get};
+ghost use Rattle.std.specs.Prelude.{◌≡◌, ◌≤◌, ◌∷◌, ◌++◌, ◌-◌, [], length, take, true, nat_lt, slice_get, slice_set};
 ghost use Rattle.lists.specs.Held.{held};
 
 use crate::fixed_list_type::FixedList;
@@ -42,7 +42,8 @@ impl<T: Copy, const N: usize> FixedList<T, N> {
     /// One item more, behind the others.
     pub fn push(&mut self, item: T)
         requires { nat_lt (length (held self.old)) N ≡ true }
-        ensures { held self.new ≡ held self.old ++ (item ∷ []) }
+        ensures held { held self.new ≡ held self.old ++ (item ∷ []) }
+        ensures items { self.new.items ≡ slice_set self.old.items (length (held self.old)) item }
     {
         self.items[self.count] = item;
         self.count += 1;
@@ -52,6 +53,7 @@ impl<T: Copy, const N: usize> FixedList<T, N> {
     pub fn pop(&mut self) -> Option<T>
         ensures last { result ≡ slice_get (held self.old) (length (held self.old) - 1) }
         ensures rest { held self.new ≡ take (length (held self.old) - 1) (held self.old) }
+        ensures items { self.new.items ≡ self.old.items }
     {
         let last = self.count.checked_sub(1)?;
         self.count = last;
@@ -60,7 +62,8 @@ impl<T: Copy, const N: usize> FixedList<T, N> {
 
     /// All items go.
     pub fn clear(&mut self)
-        ensures { held self.new ≡ [] }
+        ensures held { held self.new ≡ [] }
+        ensures items { self.new.items ≡ self.old.items }
     {
         self.count = 0;
     }

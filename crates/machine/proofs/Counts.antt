@@ -17,11 +17,6 @@ pub one-and : (a b : Bool) → one (a && b) ≤ one b
 one-and true b = omega arith
 one-and false b = omega arith
 
-pub one-and-left : (a b : Bool) → one (a && b) ≤ one a
-one-and-left true true = omega arith
-one-and-left true false = omega arith
-one-and-left false b = omega arith
-
 pub one-yes : (a : Bool) → a ≡ true → one a ≡ 1
 one-yes a e = ap one e
 

@@ -4,7 +4,7 @@ ghost use Rattle.std.specs.Option.{option_map};
 ghost use Rattle.std.specs.Result.{result_and};
 ghost use Rattle.lists.specs.Held.{held};
 ghost use Rattle.facts.specs.Lengths.{lengths};
-ghost use Rattle.facts_file.specs.Facts.{facts_file, facts_before, FactsLoaded};
+ghost use Rattle.facts_file.specs.Facts.{facts_file, facts_before, over, FactsLoaded};
 ghost use Rattle.rules_file.specs.RuleRows.{rules_file};
 ghost use Rattle.rules_file.specs.RulesWritten.{RulesLoaded};
 ghost use Rattle.reader.specs.RuleScan.{closed_result};
@@ -45,6 +45,7 @@ pub fn check_facts(
     ensures outcome { result_and (outcome_of result) (Ok (held facts.new)) ≡ facts_file lengths.valid (option_map (λ x. x.now) file.entry) }
     ensures print { print_of result ≡ check_print (facts_file lengths.valid (option_map (λ x. x.now) file.entry)) }
     ensures facts { held facts.new ≡ facts_before lengths.valid (option_map (λ x. x.now) file.entry) }
+    ensures items { facts.new.items ≡ over (facts_before lengths.valid (option_map (λ x. x.now) file.entry)) facts.old.items }
     ensures loaded { FactsLoaded lengths.valid (option_map (λ x. x.now) file.entry) (outcome_of result) (held facts.new) }
 {
     Ok(load_facts::<Lengths>(file, facts)?)

@@ -15,15 +15,15 @@ returns-in_default g t c =
 pub search_from-requires : goal.search_from-requires
 search_from-requires g t c κs within =
     let below = inside c.args.self.now.rule.now.singles c.as_slice.result.now c.len-at.result c.as_slice.ensures.items c.in-Some.ensures.lookup.0 in
-    let more = ap length c.push.ensures ∙ length_push (held c.args.choice.now.labels) c.args.self.now.active in
+    let more = ap length c.push.ensures.held ∙ length_push (held c.args.choice.now.labels) c.args.self.now.active in
     let p = place_partial g.W.Words.system c.args.self.now.rule.now c.args.self.now.place c.args.self.now.active (g.S.Store.meaning c.args.self.now.store.now).pairs c.args.choice.now
-    c.requires c.len-at.result c.len-at.ensures.count c.if-at-self.true c.push.new.self c.push.ensures in
+    c.requires c.len-at.result c.len-at.ensures.count c.if-at-self.true c.push.new.self c.push.ensures.held in
     (omega (arith, below, more, c.len-at.ensures.count), (search rules, (search rules, p)))
 
 pub returns-then-at-self : goal.returns-then-at-self
 returns-then-at-self g t c =
     place-found g.W.Words.system c.args.self.now.rule.now c.args.self.now.place c.args.self.now.active (g.S.Store.meaning c.args.self.now.store.now).pairs c.args.choice.now
-    c.requires c.len-at.result c.len-at.ensures.count c.if-at-self.true c.push.new.self c.push.ensures
+    c.requires c.len-at.result c.len-at.ensures.count c.if-at-self.true c.push.new.self c.push.ensures.held
     (owed-rising (g.S.Store.meaning c.args.self.now.store.now) (g.S.Store.owed c.args.self.now.store.now)) c.search_from.result c.search_from.ensures
 
 pub loop-label-init : goal.loop-label-init

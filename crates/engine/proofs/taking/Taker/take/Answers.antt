@@ -9,7 +9,7 @@ pub loop-label-init : goal.loop-label-init
 loop-label-init g c =
     let t = c.args.self.now in
     let m = g.S.Store.meaning c.args.store.now in
-    c.clear.ensures ∙ sym (taken_to-first g.W.Words.system (map all_seen t.earlier.now) t.chosen.now t.letters.now (all_seen t.all.now) m (g.S.Store.owed c.args.store.now))
+    c.clear.ensures.held ∙ sym (taken_to-first g.W.Words.system (map all_seen t.earlier.now) t.chosen.now t.letters.now (all_seen t.all.now) m (g.S.Store.owed c.args.store.now))
 
 pub push-requires : goal.push-requires
 push-requires g c =
@@ -40,7 +40,7 @@ loop-label-preserved-then-takes_label g c =
     let t = c.args.self.now in
     let step : Step t.letters.now (all_seen t.all.now) (g.S.Store.meaning c.args.store.now) c.loop-label.above c.in-Some.label =
     record { owed = g.S.Store.owed c.args.store.now; next = c.in-Some.ensures } in
-    filled-yes g.W.Words.system (map all_seen t.earlier.now) t.chosen.now step c.takes_label.result c.takes_label.ensures c.if-takes_label.true (held c.loop-label.taken) (held c.push.new.self) c.loop-label.invariant c.push.ensures
+    filled-yes g.W.Words.system (map all_seen t.earlier.now) t.chosen.now step c.takes_label.result c.takes_label.ensures c.if-takes_label.true (held c.loop-label.taken) (held c.push.new.self) c.loop-label.invariant c.push.ensures.held
 
 pub loop-label-preserved : goal.loop-label-preserved
 loop-label-preserved g c =
