@@ -11,10 +11,10 @@ use Rattle.stores.specs.Table.{Row, pairs_of, pile_of, distinct}
 use Rattle.stores.proofs.Tables.{rises-pairs}
 use Rattle.chains.specs.Links.{next_in, on_chain, has_label, points, Linked}
 use Rattle.chains.specs.Rows.{magnitude, chain_of, chain_at}
-use Rattle.chains.specs.Acts.{asked_label, Finds}
+use Rattle.chains.specs.Acts.{label_in, asked_label, Finds}
 use Rattle.chains.specs.declared.chain_types.Way.TheVariants.{ByLabel, ByKind, ByWord}
 use Rattle.chains.proofs.Nexts.{passes_at, next_in_that, next-none, next-less, next-same, next-passes}
-use Rattle.chains.proofs.Named.{label_in, used-read, all-read, owed-pairs}
+use Rattle.chains.proofs.Named.{used-read, all-read, owed-pairs}
 use Rattle.chains.proofs.Relinked.{freed-found}
 use Rattle.chains.proofs.Walks.{meets, meets-used, meets-none}
 

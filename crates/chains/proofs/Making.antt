@@ -20,7 +20,7 @@ use Rattle.chains.proofs.Spare.{frees-more}
 
 -- no chain has a row
 abbrev pub no_heads : Heads
-no_heads = record { firsts = replicate 3 (replicate 64 (link_to None)); free = Some 0; count = 0 }
+no_heads = record { firsts = replicate 3 (replicate 64 (link_to None)); lasts = replicate 3 (replicate 64 (link_to None)); free = Some 0; count = 0 }
 
 no_head : (c : ℕ) → c < 64 → get_or (map named (replicate 64 (link_to None))) c None ≡ None
 no_head c h =

@@ -11,11 +11,6 @@ use Rattle.stores.proofs.Pairs.{read-placed}
 use Rattle.chains.specs.Links.{next_in, has_label, points}
 use Rattle.chains.proofs.Nexts.{passes_at, beyond, at_most, is_it, next-passes, next-member}
 
--- the label of a row, or 0
-abbrev pub label_in : Row → ℕ
-label_in None = 0
-label_in (Some (l, f)) = l
-
 -- equal rows have equal pairs
 abbrev or_blank : Pair → Row → Pair
 or_blank p None = p

@@ -9,7 +9,7 @@ use Rattle.std.proofs.lemmas.Bool.Decides.{nat_tests}
 use Rattle.std.proofs.lemmas.List.{map-set}
 use Rattle.chains.specs.Links.{Place, up_to, points}
 use Rattle.chains.specs.Rows.{rows_of, number, named, link_to, chain_at, links_of, heads_of, LinkedWay, Walkable}
-use Rattle.chains.specs.Acts.{Within, relinked, headed, Leaves, Pointed}
+use Rattle.chains.specs.Acts.{Within, relinked, headed, Leaves, KeepsLinks, Pointed}
 use Rattle.chains.specs.declared.chain_types.ChainRow.{ChainRow}
 use Rattle.chains.specs.declared.chain_types.Heads.{Heads}
 use Rattle.chains.specs.declared.chain_types.Way.{Way}
@@ -41,6 +41,21 @@ pointed_head w b x t h g f n e p q =
       count = q;
     }
 
+-- what one way's links are, and what stays, where hints alone are changed afterwards
+pub linked_kept : (w : Way) (R : List Row) (t u : List ChainRow) (h g : Heads) → KeepsLinks t u h g → LinkedWay w R t h → LinkedWay w R u g
+linked_kept w R t u h g k m = rw (k.links w, k.heads w) m
+
+pub leaves_kept : (w : Way) (i : ℕ) (t u v : List ChainRow) (h g f : Heads) → KeepsLinks u v g f → Leaves w i t u h g → Leaves w i t v h f
+leaves_kept w i t u v h g f k m =
+    record {
+      rows = k.rows ∙ m.rows;
+      links = λ x e. k.links x ∙ m.links x e;
+      heads = λ x e. k.heads x ∙ m.heads x e;
+      frees = λ j x y z. ap (λ s. get_or s j None) (k.links w) ∙ m.frees j x y z;
+      free = k.free ∙ m.free;
+      count = k.count ∙ m.count;
+    }
+
 -- the same of a way that is equal
 pub pointed_at : (v w : Way) (b : ℕ) (before : Option ℕ) (i : ℕ) (t u : List ChainRow) (h g : Heads) (r : ChainRow) → v ≡ w → Pointed v b before (Some i) (set t i r) u h g → Pointed w b before (Some i) (set t i r) u h g
 pointed_at v w b before i t u h g r e p = subst (λ (x : Way). Pointed x b before (Some i) (set t i r) u h g) e p
@@ -49,6 +64,13 @@ pointed_at v w b before i t u h g r e p = subst (λ (x : Way). Pointed x b befor
 pub points_fits : (R : List Row) (at o : Option ℕ) → sound (pile_of R) ≡ true → points R at o ≡ true → Within at 1024
 points_fits R None o s p = tt
 points_fits R (Some i) o s p = let n : length R ≤ 1024 = grind (arith, nat_tests) in let q = points-within R i o p in omega arith
+
+pub points_here : (t u : List ChainRow) (at o : Option ℕ) → rows_of u ≡ rows_of t → points (rows_of t) at o ≡ true → Within at (length u)
+points_here t u None o e p = tt
+points_here t u (Some i) o e p = let q = points-within (rows_of t) i o p in let n = rows-length u in let m = ap length e in omega arith
+
+pub leads_here : (t u : List ChainRow) (at x o : Option ℕ) → rows_of u ≡ rows_of t → at ≡ x → points (rows_of t) x o ≡ true → Within at (length u)
+leads_here t u at x o e q p = points_here t u at o e (subst (λ (y : Option ℕ). points (rows_of t) y o ≡ true) (sym q) p)
 
 -- the row before a place has a pair
 place-used : (key : Pair → ℕ) (R : List Row) (L H : List (Option ℕ)) (b a i : ℕ) (at : Option ℕ) → Place key R L H b a (Some i) at → get_or R i None ≡ None → ⊥

@@ -10,14 +10,9 @@ use Rattle.stores.specs.Table.{Row, pairs_of, pile_of, absent, distinct}
 use Rattle.stores.proofs.Pairs.{least}
 use Rattle.stores.proofs.Tables.{rises-pairs, absent-read, pairs-put, pairs-take}
 use Rattle.chains.specs.Links.{next_in, on_chain, points, Linked, up_to, Place}
-use Rattle.chains.specs.Acts.{relinked, headed}
+use Rattle.chains.specs.Acts.{label_in, label_at, relinked, headed}
 use Rattle.chains.proofs.Nexts.{passes_at, beyond, at_most, is_it, next-passes, next-member, next-placed, next-taken}
-use Rattle.chains.proofs.Named.{label_in, named_as, named_or_none, names_or_not, one_pair, used-within, used-read, one-row, points-one, points_fill, points-free, holds, used-sound, not-place, same-place}
-
--- the label of the row that a link names, or 0
-abbrev pub label_at : List Row → Option ℕ → ℕ
-label_at R None = 0
-label_at R (Some i) = label_in (get_or R i None)
+use Rattle.chains.proofs.Named.{named_as, named_or_none, names_or_not, one_pair, used-within, used-read, one-row, points-one, points_fill, points-free, holds, used-sound, not-place, same-place}
 
 -- where a place comes from: a row of the chain, or its head
 pub record Source (key : Pair → ℕ) (R : List Row) (L H : List (Option ℕ)) (b a : ℕ) (before at : Option ℕ) (m : ℕ) : Type 0 where

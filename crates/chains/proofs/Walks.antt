@@ -1,5 +1,5 @@
--- A walk along a chain: from its head, a row further, and where it stops.
-use Rattle.std.proofs.Common.{◌≡◌, ℕ, ◌-◌, ◌<◌, ◌≤◌, true, false, ◌&&◌, eqb, ltb, leb, List, length, get_or, Some, None, Option, sym, refl, ap, subst, ◌∙◌, arith}
+-- A walk along a chain: from its head or from a row of it, a row further, and where it stops.
+use Rattle.std.proofs.Common.{◌⊎◌, inl, inr, ◌≡◌, ℕ, ◌-◌, ◌<◌, ◌≤◌, true, false, ◌&&◌, eqb, ltb, leb, List, length, get_or, Some, None, Option, sym, refl, ap, subst, ◌∙◌, arith}
 use Rattle.std.proofs.lemmas.Bool.{eqb-true, eq-eqb, lt-ltb, false≢true}
 use Rattle.std.proofs.lemmas.Bool.Decides.{nat_tests}
 use Rattle.facts.specs.declared.fact_types.Fact.{Fact}
@@ -9,8 +9,9 @@ use Rattle.stores.specs.Table.{Row, pairs_of, pile_of, distinct}
 use Rattle.stores.proofs.Tables.{rises-pairs}
 use Rattle.chains.specs.Links.{next_in, on_chain, has_label, points, Linked, up_to, Leads, Place}
 use Rattle.chains.proofs.Nexts.{beyond, next-passes, next_gap}
-use Rattle.chains.proofs.Named.{label_in, used-read, used-sound, points-within}
+use Rattle.chains.proofs.Named.{used-read, used-sound, points-within}
 use Rattle.chains.proofs.Tables.{row-at, link-at, rows-length}
+use Rattle.chains.specs.Acts.{label_in, Started}
 use Rattle.chains.specs.Rows.{rows_of, chain_at, link, links_of, heads_of, Walkable}
 use Rattle.chains.specs.declared.chain_types.ChainRow.{ChainRow}
 use Rattle.chains.specs.declared.chain_types.Heads.{Heads}
@@ -47,6 +48,11 @@ meets-used R i (Some n) e p = let z : has_label n (get_or R i None) ≡ false = 
 pub meets-none : (R : List Row) (o : Option ℕ) → points R None o ≡ true → o ≡ None
 meets-none R None p = refl
 meets-none R (Some n) p = absurd (false≢true p)
+
+-- a row has a pair, or is free
+pub pair_or_free : (r : Row) → ((p : Pair) × (r ≡ Some p)) ⊎ (r ≡ None)
+pair_or_free None = inr refl
+pair_or_free (Some p) = inl (p, refl)
 
 -- the place of a label -------------------------------------------------------------------------------------------
 
@@ -99,6 +105,21 @@ walk-more key R L H b a before i d s k p = go (get_or R i None) refl
         let w = m.few in
         (subst (λ (x : ℕ). Place key R L H b x (Some i) (get_or L i None)) (sym z) (place-more key R L H b a before i l f d s k p e), omega arith, omega arith)
 
+-- the row whose link leads to another is the one before it
+pub led : (w : Way) (t : List ChainRow) (h : Heads) (i l b : ℕ) (f : Fact) (p : Pair) → Walkable w t h → get_or (rows_of t) i None ≡ Some (l, f) → get_or (rows_of t) b None ≡ Some p → get_or (links_of w t) b None ≡ Some i → Place (chain_at w) (rows_of t) (links_of w t) (heads_of w h) (chain_at w (l, f)) (l - 1) (Some b) (Some i)
+led w t h i l b f (m, g) k e q s =
+    let key : Pair → ℕ = chain_at w in
+    let on = key (m, g) in
+    let later : points (rows_of t) (Some i) (next_in (on_chain key on) m (pairs_of (rows_of t))) ≡ true = subst (λ (o : Option ℕ). points (rows_of t) o (next_in (on_chain key on) m (pairs_of (rows_of t))) ≡ true) s (k.linked.later b m g q) in
+    let met = meets key (rows_of t) on m i l f k.apart k.kept e later in
+    let u : up_to key on m (get_or (rows_of t) b None) ≡ (eqb on on && leb m m) = ap (up_to key on m) q in
+    let v = eq-eqb on on refl in
+    let base : Place key (rows_of t) (links_of w t) (heads_of w h) on m (Some b) (Some i) = record { next = later; from = (grind (arith, nat_tests), s) } in
+    let n = met.above in
+    let beyond_it : beyond (l - 1) (next_in (on_chain key on) m (pairs_of (rows_of t))) ≡ ltb (l - 1) l = ap (beyond (l - 1)) met.found in
+    let stop = place_stop key (rows_of t) (links_of w t) (heads_of w h) on m (l - 1) (Some b) (Some i) base (omega arith) (beyond_it ∙ lt-ltb (l - 1) l (omega arith)) in
+    subst (λ (x : ℕ). Place key (rows_of t) (links_of w t) (heads_of w h) x (l - 1) (Some b) (Some i)) (sym met.chain) stop
+
 -- a walk over a table has come to a row, whose label is above another or not
 module _ (w : Way) (t : List ChainRow) (h : Heads) (b a c : ℕ) (before at : Option ℕ) (i : ℕ) (k : Walkable w t h) (p : Place (chain_at w) (rows_of t) (links_of w t) (heads_of w h) b a before at) (e : at ≡ Some i) where
   met_at : Place (chain_at w) (rows_of t) (links_of w t) (heads_of w h) b a before (Some i)
@@ -107,17 +128,21 @@ module _ (w : Way) (t : List ChainRow) (h : Heads) (b a c : ℕ) (before at : Op
   met_within : i < length t
   met_within = let n = rows-length t in let m = points-within (rows_of t) i (next_in (on_chain (chain_at w) b) a (pairs_of (rows_of t))) met_at.next in omega arith
 
+  -- it is no free row
+  pub met_pair : (d : ChainRow) → (get_or t i d).row ≡ None → ⊥
+  met_pair d q = meets-used (rows_of t) i (next_in (on_chain (chain_at w) b) a (pairs_of (rows_of t))) (row-at t i d met_within ∙ q) met_at.next
+
   module _ (d : ChainRow) (l : ℕ) (f : Fact) (q : (get_or t i d).row ≡ Some (l, f)) where
     met_label : label_in (get_or (rows_of t) i None) ≡ l
     met_label = ap label_in (row-at t i d met_within ∙ q)
 
-    pub met_more : (r : ChainRow) → l ≤ c → (Place (chain_at w) (rows_of t) (links_of w t) (heads_of w h) b (label_in (get_or (rows_of t) i None)) (Some i) (link w (get_or t i r)) × (label_in (get_or (rows_of t) i None) ≤ c)) × (1000000 - label_in (get_or (rows_of t) i None) < 1000000 - a)
+    pub met_more : (r : ChainRow) → l ≤ c → Started (chain_at w) (rows_of t) (links_of w t) (heads_of w h) b c (Some i) (link w (get_or t i r)) × (1000000 - label_in (get_or (rows_of t) i None) < 1000000 - a)
     met_more r n =
         let m = walk-more (chain_at w) (rows_of t) (links_of w t) (heads_of w h) b a before i k.apart k.kept k.linked met_at in
         let x = m.1 in
         let y = m.2 in
         let z = met_label in
-        ((rw (← (link-at w t i r met_within)) m.0, omega arith), omega arith)
+        (record { place = rw (← (link-at w t i r met_within)) m.0; below = omega arith }, omega arith)
 
     pub met_stop : a ≤ c → c < l → Place (chain_at w) (rows_of t) (links_of w t) (heads_of w h) b c before at
     met_stop o n = let z = met_label in rw e (walk_stop (chain_at w) (rows_of t) (links_of w t) (heads_of w h) b a c before i k.apart k.kept met_at o (omega arith))

@@ -38,11 +38,13 @@ pub(crate) struct Link {
 /// The link to no row, as a table has at most so many.
 pub(crate) const NO_ROW: Link = Link { number: 1_024 };
 
-/// A row of the table, and a link to the row after it on its chain of each way. A free row's link by label leads to the next free row.
+/// A row of the table, and for each way a link to the row after it on its chain, and a hint of the row before it. A free row's link by
+/// label leads to the next free row. A hint is looked at before it is followed, so that none has to be right.
 #[derive(Clone, Copy)]
 pub struct ChainRow {
     pub(crate) row: Row,
     pub(crate) links: [Link; 3],
+    pub(crate) hints: [Link; 3],
     ghost three: { length links ≡ 3 },
 }
 
@@ -50,12 +52,14 @@ pub struct ChainRow {
 pub const FREE_ROW: ChainRow = ChainRow {
     row: None,
     links: [NO_ROW; 3],
+    hints: [NO_ROW; 3],
 };
 
-/// The first row of each chain, the first free row, and how many rows have a pair.
+/// The first row of each chain, a hint of its last row, the first free row, and how many rows have a pair.
 #[derive(Clone, Copy)]
 pub(crate) struct Heads {
     pub(crate) firsts: [[Link; CHAINS]; 3],
+    pub(crate) lasts: [[Link; CHAINS]; 3],
     pub(crate) free: Option<u32>,
     pub(crate) count: usize,
 }
@@ -68,7 +72,8 @@ pub(crate) struct Spot {
 }
 
 /// The rows of a table, and the heads of their chains.
-// What three functions ask of it is no ghost field: while a row is put on its chains or taken off, the links of some ways alone are right.
+// What its functions ask of it is no ghost field: while a row is put on its chains or taken off, the links of some ways alone are right. The
+// pair of a row is asked beside its number, since rows change.
 #[derive(Drop)]
 pub(crate) struct LinkedTable<'a> {
     pub(crate) table: &'a mut [ChainRow],

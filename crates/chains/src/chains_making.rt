@@ -26,6 +26,7 @@ impl<'a> Chains<'a> {
         free_all(table);
         let heads = Heads {
             firsts: [[NO_ROW; CHAINS]; 3],
+            lasts: [[NO_ROW; CHAINS]; 3],
             free: Some(0),
             count: 0,
         };

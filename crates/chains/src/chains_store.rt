@@ -1,15 +1,16 @@
 //! The functions of a store of linked rows.
-ghost use Rattle.std.specs.Prelude.{◌≡◌, true, pos, slice_index_or};
+ghost use Rattle.std.specs.Prelude.{◌≡◌, ◌≤◌, ◌-◌, ◌%◌, true, pos, slice_index_or};
 ghost use Rattle.stores.specs.Store.{of_kind_with};
-ghost use Rattle.stores.specs.Piles.{sound_pair};
+ghost use Rattle.stores.specs.Piles.{sound_pair, after_take};
 ghost use Rattle.stores.specs.Table.{pile_of, pairs_of};
 ghost use Rattle.chains.specs.Links.{points, next_in, on_chain};
 ghost use Rattle.chains.specs.Rows.{rows_of, chain_at};
+ghost use Rattle.chains.specs.declared.chain_types.Way.TheVariants.{ByLabel};
 ghost use Rattle.chains.specs.Acts.{asked_label, Finds, Replaces};
 
-use crate::chain_types::{CHAINS, Chain, ChainRow, Way};
+use crate::chain_types::{Chain, ChainRow, Way};
 use crate::chains_type::Chains;
-use crate::ways::{chain_at, chain_of};
+use crate::ways::chain_of;
 use facts::{Fact, KINDS};
 use stores::{Store, StoreFault, check_pair, is_asked_for};
 
@@ -21,7 +22,26 @@ fn asked_label(row: &ChainRow, kind: u8, word: i64) -> Option<u32>
     is_asked_for(&fact, kind, word).then_some(label)
 }
 
+/// The chain of a label.
+fn label_chain(label: u32) -> Chain
+    ensures way { result.way ≡ ByLabel }
+    ensures number { result.number ≡ label % 64 }
+{
+    chain_of(Way::ByLabel, label, 0, 0)
+}
+
 impl Chains<'_> {
+    /// A row and its fact, where the row has the label, or none.
+    fn found(&self, label: u32, at: Option<u32>) -> Option<(u32, Fact)>
+        requires one { 1 ≤ label }
+        requires first { points (rows_of self.now.linked.table.now) at (next_in (on_chain (chain_at ByLabel) (label % 64)) (label - 1) (pairs_of (rows_of self.now.linked.table.now))) ≡ true }
+        ensures { Finds label (rows_of self.now.linked.table.now) result }
+    {
+        let at = at?;
+        let (held, fact) = self.linked.table[at as usize].row?;
+        (held == label).then_some((at, fact))
+    }
+
     /// The row of a label and its fact, or none: the first row of the label's chain that is not below it has the label or no row has it.
     fn held(&self, label: u32) -> Option<(u32, Fact)>
         ensures { Finds label (rows_of self.now.linked.table.now) result }
@@ -29,39 +49,52 @@ impl Chains<'_> {
         if label == 0 {
             return None;
         }
-        let chain = Chain {
-            way: Way::ByLabel,
-            number: label as usize % CHAINS,
-        };
-        let at = self.linked.place(chain, label - 1).at?;
-        let (held, fact) = self.linked.table[at as usize].row?;
-        (held == label).then_some((at, fact))
+        let spot = self.linked.place(label_chain(label), label - 1);
+        self.found(label, spot.at)
+    }
+
+    /// The same, where the label may be above all of its chain, as the chain's last row then shows without a walk.
+    fn held_or_last(&self, label: u32) -> Option<(u32, Fact)>
+        requires { 1 ≤ label }
+        ensures { Finds label (rows_of self.now.linked.table.now) result }
+    {
+        let chain = label_chain(label);
+        let last = self.linked.heads.last(chain);
+        let spot = self.linked.place_by(chain, label - 1, last);
+        self.found(label, spot.at)
     }
 
     /// The first row of a chain whose label is above another. Where the other's own row stands on the chain, it is that row's next one.
     fn first_above(&self, chain: Chain, above: u32) -> Option<u32>
         ensures { points (rows_of self.now.linked.table.now) result (next_in (on_chain (chain_at chain.way) chain.number) above (pairs_of (rows_of self.now.linked.table.now))) ≡ true }
     {
-        let table = &*self.linked.table;
-        if let Some((i, fact)) = self.held(above)
-            && chain_at(chain.way, &(above, fact)).number == chain.number
-        {
-            return table[i as usize].next(chain.way);
-        }
-        self.linked.place(chain, above).at
+        let own = self.held(above).map(|(i, _)| i);
+        self.linked.place_by(chain, above, own).at
     }
 
     /// Puts a fact in the place of one of its kind and first word, so that no row changes its chains; or answers none and changes nothing.
-    fn replaced(&mut self, label: u32, fact: Fact) -> Option<()>
-        requires { sound_pair (label, fact) ≡ true }
+    fn replaced(&mut self, held: Option<(u32, Fact)>, label: u32, fact: Fact) -> Option<()>
+        requires held { Finds label (rows_of self.old.linked.table.now) held }
+        requires pair { sound_pair (label, fact) ≡ true }
         ensures { Replaces result label fact (rows_of self.old.linked.table.now) (rows_of self.new.linked.table.now) }
     {
-        let (i, held) = self.held(label)?;
+        let (i, held) = held?;
         if !same_chains(&held, &fact) {
             return None;
         }
         self.linked.table[i as usize].row = Some((label, fact));
         Some(())
+    }
+
+    /// Takes a label's pair out, where a row has it.
+    fn cleared(&mut self, held: Option<(u32, Fact)>, label: u32)
+        requires { Finds label (rows_of self.old.linked.table.now) held }
+        ensures { pile_of (rows_of self.new.linked.table.now) ≡ after_take label (pile_of (rows_of self.old.linked.table.now)) }
+    {
+        if let Some((i, fact)) = held {
+            let pair = (label, fact);
+            self.linked.remove(i, &pair);
+        }
     }
 }
 
@@ -106,7 +139,7 @@ impl Store for Chains<'_> {
     }
 
     /// The walk ends at the first row that fits, since behind it the labels are greater.
-    // By hand, as in `place`. With its beginning by `first_above`, tried, the workload `shortest` took 6 in 100 more instructions.
+    // By hand, as in `walk`. With its beginning by `first_above`, tried, the workload `shortest` took 6 in 100 more instructions.
     fn next_with(&self, kind: u8, word: i64, above: u32) -> Option<u32> {
         let chain = chain_of(Way::ByWord, 0, kind, word);
         let table = &*self.linked.table;
@@ -124,10 +157,11 @@ impl Store for Chains<'_> {
     /// A fact of another kind or first word than the label's own stands on other chains, and so the label's pair is taken out first.
     fn put(&mut self, label: u32, fact: Fact) -> Result<(), StoreFault> {
         check_pair(label, &fact)?;
-        if self.replaced(label, fact).is_some() {
+        let held = self.held_or_last(label);
+        if self.replaced(held, label, fact).is_some() {
             return Ok(());
         }
-        let _ = self.take(label);
+        self.cleared(held, label);
         let i = self.linked.heads.free.ok_or(StoreFault::Full)?;
         self.linked.add(i, (label, fact));
         Ok(())

@@ -2,7 +2,7 @@
 ghost use Rattle.std.specs.Prelude.{◌≡◌, ◌<◌, ◌≤◌, length, true, slice_index_or, slice_set, Some, None};
 ghost use Rattle.stores.specs.Table.{absent};
 ghost use Rattle.chains.specs.Rows.{rows_of, LinkedWay, Walkable};
-ghost use Rattle.chains.specs.Acts.{Within, Pointed, Leaves};
+ghost use Rattle.chains.specs.Acts.{Within, Pointed, Leaves, KeepsLinks};
 
 use crate::chain_types::{Chain, Link, LinkedTable, Way};
 use crate::ways::chain_at;
@@ -21,6 +21,18 @@ impl LinkedTable<'_> {
         }
     }
 
+    /// Sets a hint: of the row before another, or of the last row of the chain where there is no other.
+    // Not one function with `point`: a link is promised to be as it was set, and of hints nothing is promised.
+    fn set_hint(&mut self, chain: Chain, after: Option<u32>, i: Option<u32>)
+        requires { Within after (length self.old.table.now) }
+        ensures { KeepsLinks self.old.table.now self.new.table.now self.old.heads self.new.heads }
+    {
+        match after {
+            Some(after) => self.table[after as usize].hints[chain.way.number()] = Link::to(i),
+            None => self.heads.lasts[chain.way.number()][chain.number] = Link::to(i),
+        }
+    }
+
     /// Puts a free row on the chain on which a pair will stand, at the place of its label.
     pub(crate) fn link_in(&mut self, way: Way, i: u32, pair: &(u32, Fact))
         requires walkable { Walkable way self.old.table.now self.old.heads }
@@ -32,9 +44,11 @@ impl LinkedTable<'_> {
         ensures leaves { Leaves way i self.old.table.now self.new.table.now self.old.heads self.new.heads }
     {
         let chain = chain_at(way, pair);
-        let spot = self.place(chain, pair.0);
+        let spot = self.place_by(chain, pair.0, self.heads.last(chain));
         self.table[i as usize].links[way.number()] = Link::to(spot.at);
         self.point(chain, spot.before, Some(i));
+        self.set_hint(chain, Some(i), spot.before);
+        self.set_hint(chain, spot.at, Some(i));
     }
 
     /// Takes a row off the chain on which its pair stands.
@@ -45,8 +59,9 @@ impl LinkedTable<'_> {
         ensures leaves { Leaves way i self.old.table.now self.new.table.now self.old.heads self.new.heads }
     {
         let chain = chain_at(way, pair);
-        let before = self.place(chain, pair.0 - 1).before;
+        let before = self.place_of(chain, i, pair).before;
         let after = self.table[i as usize].next(way);
         self.point(chain, before, after);
+        self.set_hint(chain, after, before);
     }
 }

@@ -39,6 +39,12 @@ impl ChainRow {
     {
         self.links[way.number()].row()
     }
+
+    /// A hint of the row before this one on its chain.
+    // Not one function with `next`, nor `last` below with `first`: nothing is promised of a hint.
+    pub(crate) fn hint(&self, way: Way) -> Option<u32> {
+        self.hints[way.number()].row()
+    }
 }
 
 impl Heads {
@@ -47,6 +53,11 @@ impl Heads {
         ensures { result ≡ slice_index_or (heads_of chain.way self.now) chain.number None }
     {
         self.firsts[chain.way.number()][chain.number].row()
+    }
+
+    /// A hint of the last row of a chain.
+    pub(crate) fn last(&self, chain: Chain) -> Option<u32> {
+        self.lasts[chain.way.number()][chain.number].row()
     }
 }
 
@@ -87,5 +98,6 @@ pub(crate) fn free_row(next: Option<u32>) -> ChainRow
     ChainRow {
         row: None,
         links: [Link::to(next), NO_ROW, NO_ROW],
+        hints: [NO_ROW; 3],
     }
 }

@@ -105,7 +105,8 @@ pub fn no_facts() -> FixedList<Fact, MOST_FACTS>
 }
 
 /// Reads the facts of a file into the list, whatever it had; none for the file is a file that is not there.
-/// Where the file is refused, the list has the facts of the rows before the one that is refused. Its array keeps what stood behind them.
+/// Where the file is refused, the list has the facts of the rows before the one that is refused. In every case the array keeps what it had
+/// behind the facts.
 // By hand: the list numbers the rows, and an iterator of rows would count them once more.
 pub fn load_facts<W: Words>(
     file: Option<&[u8]>,

@@ -1,5 +1,5 @@
 //! What a list in an array answers, and how it grows and shrinks.
-ghost use Rattle.std.specs.Prelude.{◌≡◌, ◌≤◌, ◌∷◌, ◌++◌, ◌-◌, [], length, take, true, nat_lt, slice_get, slice_set};
+ghost use Rattle.std.specs.Prelude.{◌≡◌, ◌≤◌, ◌∷◌, ◌++◌, ◌-◌, [], length, take, true, nat_lt, replicate, slice_get, slice_set};
 ghost use Rattle.lists.specs.Held.{held};
 
 use crate::fixed_list_type::FixedList;
@@ -7,7 +7,8 @@ use crate::fixed_list_type::FixedList;
 impl<T: Copy, const N: usize> FixedList<T, N> {
     /// A list without items. The blank stands in the places that are not used.
     pub fn new(blank: T) -> FixedList<T, N>
-        ensures { held result ≡ [] }
+        ensures held { held result ≡ [] }
+        ensures items { result.items ≡ replicate N blank }
     {
         FixedList {
             items: [blank; N],

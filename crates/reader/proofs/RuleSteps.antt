@@ -14,13 +14,12 @@ use Rattle.rules.specs.Rules.{Rule}
 use Rattle.rules.specs.Writing.{may_add, may_add_body, add_head, add_body, stage, done, after}
 use Rattle.rows.specs.Refusals.{Outcome, ◌>>=◌, refused_as}
 use Rattle.rules_file.specs.RuleRefusals.{row_refusal}
-use Rattle.rules_file.specs.RuleRows.{word_spelled, ruled, head_part, body_part, with_head, with_body, State, no_rule, writing, write_head, write_body}
-use Rattle.reader.specs.RuleScan.{with_head_row, with_body_row, written, BegunBy, in_rule}
+use Rattle.rules_file.specs.RuleRows.{word_spelled, ruled, head_part, body_part, with_head, with_body, State, writing, write_head, write_body}
+use Rattle.reader.specs.RuleScan.{with_head_row, with_body_row, written, BegunBy}
 use Rattle.rows.specs.declared.field_types.Place.{Place}
-use Rattle.rows.specs.declared.refusal_types.Refusal.{Refusal}
 use Rattle.rules_file.specs.declared.fault_types.RowFault.{RowFault}
 use Rattle.rules_file.specs.declared.word_type.RowWord.TheVariants as row_word
-use Rattle.rows.proofs.Outcomes.{no_ok, same_ok}
+use Rattle.rows.proofs.Outcomes.{no_ok}
 use Rattle.rules_file.proofs.RuleFields.{ruled_ok}
 use Rattle.rules_file.proofs.RuleLines.{head-added, body-added, head-part-was, body-part-was}
 
@@ -137,11 +136,3 @@ module _ (valid : ℤ → Bool) (row : ℕ) (cs : List (List ℕ)) (done : List 
   pub body-written : (sort : BodySort) (new : Rule) (rules : List Rule) (res : Result (Unit {0}) RowFault) → rules ≡ done → refused_as row_refusal (written res new) ≡ with_body_row valid row cs sort r → refused_as row_refusal (written res (writing rules at_row new)) ≡ write_body valid row cs sort (writing done at_row r)
   body-written sort new rules (Ok u) e h = ap (λ (d : List Rule). Ok (writing d at_row new)) e ∙ sym (body-step sort ∙ rw (← h) refl)
   body-written sort new rules (Err x) e h = sym (body-step sort ∙ rw (← h) refl)
-
--- the body that a part goes to ---------------------------------------------------------------------------------------------
-
-pub in_rule-was : (row : ℕ) (st x : State) → Ok x ≡ in_rule row st → st ≡ x
-in_rule-was row no_rule x h = absurd (no_ok _ x (sym h))
-in_rule-was row (writing done at_row r) x h = same_ok {E = Refusal} (writing done at_row r) x (sym h)
-
--- no head behind a body ----------------------------------------------------------------------------------------------------

@@ -1,5 +1,5 @@
 -- A row of rules as the loader holds it, and how far its set is written. What each step comes to is said by specs/RuleRows.
-use Rattle.std.specs.Prelude.{◌≡◌, ℕ, zero, suc, ◌≤◌, Bool, List, [], ◌∷◌, map, length, ℤ, Some, None, Ok, Err, Option, Result}
+use Rattle.std.specs.Prelude.{◌≡◌, ℕ, zero, suc, ◌≤◌, Bool, List, [], ◌∷◌, ◌++◌, map, length, ℤ, Some, None, Ok, Err, Option, Result}
 use Rattle.std.specs.Borrow.{Bor}
 use Rattle.rules.specs.declared.rule_types.Argument.{Argument}
 use Rattle.rules.specs.declared.rule_types.HeadSort.{HeadSort}
@@ -7,12 +7,9 @@ use Rattle.rules.specs.declared.rule_types.HeadSort.TheVariants.{Keep, Drop, Kee
 use Rattle.rules.specs.declared.rule_types.BodySort.{BodySort}
 use Rattle.rules.specs.declared.rule_types.RuleFault.{RuleFault}
 use Rattle.rules.specs.declared.closed_type.ClosedSet.{ClosedSet}
-use Rattle.rules.specs.declared.rule_types.RuleFault.TheVariants.{OutOfOrder}
-use Rattle.rules.specs.declared.set_types.OpenSet.{OpenSet}
-use Rattle.rules.specs.declared.set_types.RuleBody.{RuleBody}
 use Rattle.rules.specs.Rules.{Rule}
 use Rattle.rules.specs.Writing.{stage, single_verdict, all_verdict, may_add, may_add_body}
-use Rattle.rules.specs.Sets.{closed_rules, open_rules, head_rules, head_draft, body_rules, body_draft}
+use Rattle.rules.specs.Sets.{closed_rules, head_rules, head_draft, body_rules, body_draft}
 use Rattle.rows.specs.Csv.{Part, content, Read, got, broken, read_separated, read_row}
 use Rattle.rows.specs.Refusals.{Outcome, ◌>>=◌}
 use Rattle.rules_file.specs.RuleRows.{ruled, head_part, body_part, with_head, with_body, State, no_rule, writing}
@@ -84,11 +81,22 @@ stage_seen Before = no_rule
 stage_seen (Head s row) = writing (head_rules s) row (head_draft s)
 stage_seen (Body s row) = writing (body_rules s) row (body_draft s)
 
+-- the rules of the set, and the one being written behind them, if there is one
+abbrev pub all_rules : State → List Rule
+all_rules no_rule = []
+all_rules (writing done at_row r) = done ++ (r ∷ [])
+
 -- a body that has begun has a part
 abbrev pub Begun : {W : Type 0} → Stage W → Type 0
 Begun Before = Unit {0}
 Begun (Head s row) = Unit {0}
 Begun (Body s row) = 5 ≤ stage (body_draft s)
+
+-- no rule is being written whose body has not begun
+abbrev pub NoHead : {W : Type 0} → Stage W → Type 0
+NoHead Before = Unit {0}
+NoHead (Head s row) = ⊥
+NoHead (Body s row) = Unit {0}
 
 -- the rule being written with the part of a row: 9, 4, and then its fields
 abbrev pub with_head_row : (ℤ → Bool) → ℕ → List (List ℕ) → HeadSort → Rule → Outcome Rule
@@ -106,24 +114,6 @@ written (Err e) x = Err e
 abbrev pub BegunBy : {E : Type 0} → Result (Unit {0}) E → Rule → Type 0
 BegunBy (Ok u) r = 5 ≤ stage r
 BegunBy (Err e) r = Unit {0}
-
-abbrev pub stage_result : {W E : Type 0} → Result (Stage W) E → Result State E
-stage_result (Ok s) = Ok (stage_seen s)
-stage_result (Err e) = Err e
-
--- a body, with the number of its `rule` row
-abbrev pub body_result : {W E : Type 0} → Result (RuleBody W × ℕ) E → Result State E
-body_result (Ok x) = Ok (writing (body_rules x.0) x.1 (body_draft x.0))
-body_result (Err e) = Err e
-
--- the rule being written; a part before any `rule` row is out of order
-abbrev pub in_rule : ℕ → State → Outcome State
-in_rule row no_rule = ruled row 0 (Err OutOfOrder)
-in_rule row (writing done at_row r) = Ok (writing done at_row r)
-
-abbrev pub open_result : {W E : Type 0} → Result (OpenSet W) E → Result (List Rule) E
-open_result (Ok s) = Ok (open_rules s)
-open_result (Err e) = Err e
 
 abbrev pub closed_result : {W E : Type 0} → Result (ClosedSet W) E → Result (List Rule) E
 closed_result (Ok s) = Ok (closed_rules s)

@@ -1,11 +1,11 @@
 //! The loader of `rules.csv`: from the file's bytes to a closed set, or to the refusal of its first faulty row.
-ghost use Rattle.std.specs.Prelude.{◌≡◌, ◌≤◌, length};
+ghost use Rattle.std.specs.Prelude.{◌≡◌, ◌≤◌, length, OnOk, Ok};
 ghost use Rattle.std.specs.Option.{option_map};
 ghost use Rattle.rows.specs.Csv.{rows};
 ghost use Rattle.rows.specs.Refusals.{refused_as};
 ghost use Rattle.rules_file.specs.RuleRefusals.{row_refusal, NamedRules};
-ghost use Rattle.rules_file.specs.RuleRows.{no_rule, write_rows, rules_file};
-ghost use Rattle.reader.specs.RuleScan.{RowRead, closed_result};
+ghost use Rattle.rules_file.specs.RuleRows.{no_rule, finished, write_rows, rules_file};
+ghost use Rattle.reader.specs.RuleScan.{RowRead, closed_result, stage_seen, all_rules, written};
 ghost use Rattle.rules_file.specs.RulesWritten.{RulesLoaded};
 
 use crate::row_types::{RuleRow, WIDTH};
@@ -25,11 +25,12 @@ fn next_row<'a>(bytes: &'a [u8], row: u32) -> Result<(RuleRow<'a>, &'a [u8]), Ro
 }
 
 // The rows are numbered by hand, as in `row_count`: an iterator's item would carry the number, the bytes and the width that are at hand.
-fn load_rows<W: Words>(bytes: &[u8]) -> Result<ClosedSet<W>, RowFault>
-    requires { length bytes.now ≤ 65536 }
-    ensures { refused_as row_refusal (closed_result result) ≡ write_rows W.Words.system.valid 1 no_rule (rows bytes.now) }
+fn load_rows<W: Words>(stage: &mut Stage<W>, bytes: &[u8]) -> Result<(), RowFault>
+    requires few { length bytes.now ≤ 65536 }
+    requires none { stage_seen stage.old ≡ no_rule }
+    ensures rules { refused_as row_refusal (written result (all_rules (stage_seen stage.new))) ≡ write_rows W.Words.system.valid 1 no_rule (rows bytes.now) }
+    ensures ended { OnOk result (finished (stage_seen stage.new) ≡ Ok (all_rules (stage_seen stage.new))) }
 {
-    let mut stage = Stage::Before;
     let mut rest = bytes;
     let mut row = 1;
     while !rest.is_empty() {
@@ -38,7 +39,7 @@ fn load_rows<W: Words>(bytes: &[u8]) -> Result<ClosedSet<W>, RowFault>
         rest = more;
         row += 1;
     }
-    Ok(stage.end_rule()?.close())
+    stage.may_end()
 }
 
 /// Reads the rules of a file into a set and closes it; none for the file is a file that is not there.
@@ -48,5 +49,7 @@ pub fn load_rules<W: Words>(file: Option<&[u8]>) -> Result<ClosedSet<W>, Refusal
     ensures loaded { RulesLoaded W.Words.system.valid (option_map (λ x. x.now) file.entry) (closed_result result) }
 {
     let bytes = file_bytes(file)?;
-    Ok(load_rows::<W>(bytes)?)
+    let mut stage = Stage::Before;
+    load_rows(&mut stage, bytes)?;
+    Ok(stage.ended().close())
 }

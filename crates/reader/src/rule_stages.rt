@@ -1,11 +1,13 @@
 //! From row to row of a rules file: 7, the word (8), 5 of the rule before, 9, 4, and then the fields from left to right.
-ghost use Rattle.std.specs.Prelude.{◌≡◌, IfOk, OnOk, Some};
+ghost use Rattle.std.specs.Prelude.{◌≡◌, [], OnOk, Ok, Some};
+ghost use Rattle.rules.specs.Writing.{no_parts};
+ghost use Rattle.rules.specs.Tables.{may_begin};
 ghost use Rattle.rules.specs.Sets.{open_rules, head_rules, head_draft, body_rules, body_draft};
 ghost use Rattle.rows.specs.Refusals.{refused_as};
 ghost use Rattle.rules_file.specs.RuleRefusals.{row_refusal};
 ghost use Rattle.rules_file.specs.declared.word_type.RowWord.TheVariants.{Rule};
-ghost use Rattle.rules_file.specs.RuleRows.{writing, finished, new_rule, write_head, write_body, write_word, word, at};
-ghost use Rattle.reader.specs.RuleScan.{cells, with_head_row, with_body_row, written, stage_seen, Begun, BegunBy, stage_result, body_result, in_rule, open_result};
+ghost use Rattle.rules_file.specs.RuleRows.{writing, finished, write_head, write_body, write_word, word, at};
+ghost use Rattle.reader.specs.RuleScan.{cells, with_head_row, with_body_row, written, stage_seen, all_rules, Begun, BegunBy, NoHead};
 
 use crate::row_types::{Cell, RuleRow};
 use crate::rule_fields::placed;
@@ -50,42 +52,90 @@ fn add_body<W: Words>(
     placed(rule.add(part), whole)
 }
 
-fn end_body<W: Words>(body: RuleBody<W>, row: u32) -> Result<OpenSet<W>, RowFault>
-    ensures { refused_as row_refusal (open_result result) ≡ finished (writing (body_rules body) row (body_draft body)) }
-{
-    placed(body.may_end(), Place::whole_row(row))?;
-    Ok(body.end())
-}
-
-fn new_rule<W: Words>(set: OpenSet<W>, row: &RuleRow<'_>) -> Result<Stage<W>, RowFault>
-    ensures step { refused_as row_refusal (stage_result result) ≡ new_rule row.now.row (cells row.now) (open_rules set) }
-    ensures begun { IfOk result Begun }
-{
-    let whole = row.whole();
-    placed(set.may_begin(), whole)?;
-    row.unused_from(2)?;
-    Ok(Stage::Head(set.begin(), whole.row))
-}
-
 impl<W: Words> Stage<W> {
-    // The rule being written, if there is one, stands behind the others: 5, which names its `rule` row.
-    pub(crate) fn end_rule(self) -> Result<OpenSet<W>, RowFault>
-        ensures { refused_as row_refusal (open_result result) ≡ finished (stage_seen self) }
+    // Whether the rule being written, if there is one, may end: 5, which names its `rule` row.
+    pub(crate) fn may_end(&self) -> Result<(), RowFault>
+        ensures { refused_as row_refusal (written result (all_rules (stage_seen self.now))) ≡ finished (stage_seen self.now) }
     {
         match self {
-            Stage::Before => Ok(OpenSet::new()),
-            Stage::Head(rule, row) => end_body(rule.body(), row),
-            Stage::Body(body, row) => end_body(body, row),
+            Stage::Before => Ok(()),
+            Stage::Head(rule, row) => placed(rule.may_end(), Place::whole_row(*row)),
+            Stage::Body(body, row) => placed(body.may_end(), Place::whole_row(*row)),
         }
     }
 
+    // Whether one rule more may be begun behind it: 4.
+    fn may_begin(&self) -> Result<(), RuleFault>
+        ensures { result ≡ may_begin (all_rules (stage_seen self.now)) }
+    {
+        match self {
+            Stage::Before => Ok(()),
+            Stage::Head(rule, _) => rule.may_begin_next(),
+            Stage::Body(body, _) => body.may_begin_next(),
+        }
+    }
+
+    // The rule being written, if there is one, stands behind the others.
+    pub(crate) fn ended(self) -> OpenSet<W>
+        requires { finished (stage_seen self) ≡ Ok (all_rules (stage_seen self)) }
+        ensures { open_rules result ≡ all_rules (stage_seen self) }
+    {
+        match self {
+            Stage::Before => OpenSet::new(),
+            Stage::Head(rule, _) => rule.body().end(),
+            Stage::Body(body, _) => body.end(),
+        }
+    }
+
+    // The body of the rule being written begins, if there is one whose body has not begun.
+    fn begin_body(&mut self)
+        ensures same { stage_seen self.new ≡ stage_seen self.old }
+        ensures no_head { NoHead self.new }
+    {
+        if let Stage::Before | Stage::Body(_, _) = self {
+            return;
+        }
+        if let Stage::Head(rule, row) = mem::replace(self, Stage::Before) {
+            *self = Stage::Body(rule.body(), row);
+        }
+    }
+
+    // The first rule of a set is begun.
+    fn begin_first(&mut self, row: u32)
+        ensures step { stage_seen self.new ≡ writing [] row no_parts }
+        ensures begun { Begun self.new }
+    {
+        *self = Stage::Head(OpenSet::new().begin(), row);
+    }
+
     // A rule is begun behind the others. The rule being written, if there is one, becomes one of them.
+    // Each move goes back to where it came from, with nothing between, so that few copies of the whole table are left.
+    fn begin_next(&mut self, row: u32)
+        requires may_end { finished (stage_seen self.old) ≡ Ok (all_rules (stage_seen self.old)) }
+        requires may_begin { may_begin (all_rules (stage_seen self.old)) ≡ Ok tt }
+        ensures step { stage_seen self.new ≡ writing (all_rules (stage_seen self.old)) row no_parts }
+        ensures begun { Begun self.new }
+    {
+        if let Stage::Before = self {
+            self.begin_first(row);
+            return;
+        }
+        self.begin_body();
+        if let Stage::Body(body, _) = mem::replace(self, Stage::Before) {
+            *self = Stage::Head(body.end().begin(), row);
+        }
+    }
+
+    // What may refuse comes before the first move.
     fn begin_rule(&mut self, row: &RuleRow<'_>) -> Result<(), RowFault>
         ensures step { refused_as row_refusal (written result (stage_seen self.new)) ≡ write_word W.Words.system.valid row.now.row (cells row.now) (stage_seen self.old) (Some Rule) }
         ensures begun { OnOk result (Begun self.new) }
     {
-        let set = mem::replace(self, Stage::Before).end_rule()?;
-        *self = new_rule(set, row)?;
+        self.may_end()?;
+        let whole = row.whole();
+        placed(self.may_begin(), whole)?;
+        row.unused_from(2)?;
+        self.begin_next(whole.row);
         Ok(())
     }
 
@@ -102,29 +152,17 @@ impl<W: Words> Stage<W> {
         }
     }
 
-    // The body of the rule being written, which may begin with this row, and the number of its `rule` row. `write_body` adds to a body
-    // where it stands, so the last arm is there for the contract alone.
-    fn body(self, row: &RuleRow<'_>) -> Result<(RuleBody<W>, u32), RowFault>
-        ensures { refused_as row_refusal (body_result result) ≡ in_rule row.now.row (stage_seen self) }
-    {
-        match self {
-            Stage::Before => Err(RowFault::Set(RuleFault::OutOfOrder, row.whole())),
-            Stage::Head(rule, at) => Ok((rule.body(), at)),
-            Stage::Body(body, at) => Ok((body, at)),
-        }
-    }
-
     fn write_body(&mut self, sort: BodySort, row: &RuleRow<'_>) -> Result<(), RowFault>
         ensures step { refused_as row_refusal (written result (stage_seen self.new)) ≡ write_body W.Words.system.valid row.now.row (cells row.now) sort (stage_seen self.old) }
         ensures begun { OnOk result (Begun self.new) }
     {
-        if let Stage::Body(body, _) = self {
-            return add_body(body, sort, row);
+        self.begin_body();
+        match self {
+            Stage::Body(body, _) => add_body(body, sort, row),
+            Stage::Before | Stage::Head(_, _) => {
+                Err(RowFault::Set(RuleFault::OutOfOrder, row.whole()))
+            }
         }
-        let (mut body, at) = mem::replace(self, Stage::Before).body(row)?;
-        add_body(&mut body, sort, row)?;
-        *self = Stage::Body(body, at);
-        Ok(())
     }
 
     // What the word of the row asks for. A part is added to the rule where it stands, since a stage has the whole set in it.

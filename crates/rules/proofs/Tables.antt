@@ -1,5 +1,5 @@
 -- What becomes of a table where the rule being written is changed, and where it ends.
-use Rattle.std.proofs.Common.{◌≡◌, ℕ, zero, suc, ◌+◌, ◌<◌, List, [], ◌∷◌, ◌++◌, map, length, take, set, Some, Result, sym, refl, ap, ◌∙◌, arith, length-set}
+use Rattle.std.proofs.Common.{◌≡◌, ℕ, zero, suc, ◌+◌, ◌<◌, List, [], ◌∷◌, ◌++◌, map, length, take, set, replicate, Some, Result, sym, refl, ap, ◌∙◌, arith, length-set}
 use Rattle.std.specs.List.{slice_get}
 use Rattle.std.proofs.lemmas.List.{take-set-le, get_or-set_same, set-get_or}
 use Rattle.std.proofs.lemmas.Option.{slice_get-get_or, slice_get_within, get_or_from_slice_get}
@@ -7,8 +7,8 @@ use Rattle.rules.specs.declared.rule_types.RuleFault.{RuleFault}
 use Rattle.rules.specs.declared.rule_types.RuleRecord.{RuleRecord}
 use Rattle.rules.specs.declared.table_type.Table.{Table}
 use Rattle.rules.specs.Rules.{Rule, rule_seen}
-use Rattle.rules.specs.Writing.{done, after}
-use Rattle.rules.specs.Tables.{rule_in, draft, WroteAt, Added}
+use Rattle.rules.specs.Writing.{no_parts, rule_in, done, after}
+use Rattle.rules.specs.Tables.{draft, WroteAt, Added}
 
 -- the record at an index was written anew
 pub written-there : (xs : List RuleRecord) (i : ℕ) (x : RuleRecord) → i < length xs → slice_get (set xs i x) i ≡ Some x
@@ -35,3 +35,9 @@ finished-more [] n h = absurd (omega arith)
 finished-more (x ∷ xs) zero h = refl
 finished-more (x ∷ xs) (suc n) h =
     let next : suc n + 1 ≡ suc (n + 1) = omega arith in rw next (ap (λ (rs : List Rule). rule_seen x ∷ rs) (finished-more xs n (omega arith)))
+
+-- a blank record in every place
+pub blank-everywhere : (x : RuleRecord) (n i : ℕ) → rule_seen x ≡ no_parts → rule_in (slice_get (replicate n x) i) ≡ no_parts
+blank-everywhere x zero i h = refl
+blank-everywhere x (suc n) zero h = h
+blank-everywhere x (suc n) (suc i) h = blank-everywhere x n i h

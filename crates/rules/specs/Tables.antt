@@ -1,21 +1,16 @@
 -- What a table of rules means, and what adding a part to the rule being written comes to.
-use Rattle.std.specs.Prelude.{◌≡◌, ℕ, cond, List, map, length, Some, None, Ok, Err, Option, Result, nat_lt, slice_get, slice_set}
+use Rattle.std.specs.Prelude.{◌≡◌, ℕ, cond, List, map, length, Some, Ok, Err, Result, nat_lt, slice_get, slice_set}
 use Rattle.lists.specs.Held.{held}
 use Rattle.rules.specs.declared.rule_types.RuleFault.{RuleFault}
 use Rattle.rules.specs.declared.rule_types.RuleFault.TheVariants.{TooMany, NoDrop}
 use Rattle.rules.specs.declared.rule_types.RuleRecord.{RuleRecord}
 use Rattle.rules.specs.declared.table_type.Table.{Table}
 use Rattle.rules.specs.Rules.{Rule, rule_seen}
-use Rattle.rules.specs.Writing.{no_parts, done, after, Wrote}
+use Rattle.rules.specs.Writing.{rule_in, done, after, Wrote}
 
 -- the rules of the set
 abbrev pub finished : Table → List Rule
 finished t = map rule_seen (held t.rules)
-
--- the rule of a record, where there is one
-abbrev pub rule_in : Option RuleRecord → Rule
-rule_in None = no_parts
-rule_in (Some r) = rule_seen r
 
 -- the rule being written: its record stands behind those of the rules
 abbrev pub draft : Table → Rule

@@ -1,5 +1,5 @@
 -- The writer of a rule: which part may come next, how its fields are judged, and the rule with the part added.
-use Rattle.std.specs.Prelude.{◌≡◌, ℕ, Bool, true, false, cond, not, ◌&&◌, List, [], ◌∷◌, ◌++◌, length, ℤ, pos, negsuc, Ok, Err, Result, ◌==◌, nat_le, nat_lt}
+use Rattle.std.specs.Prelude.{◌≡◌, ℕ, Bool, true, false, cond, not, ◌&&◌, List, [], ◌∷◌, ◌++◌, length, ℤ, pos, negsuc, Some, None, Option, Ok, Err, Result, ◌==◌, nat_le, nat_lt}
 use Rattle.rules.specs.declared.rule_types.Argument.{Argument}
 use Rattle.rules.specs.declared.rule_types.Argument.TheVariants as argument
 use Rattle.rules.specs.declared.rule_types.Operand.{Operand}
@@ -164,6 +164,11 @@ giveall_verdict valid r g = over_verdict r (pos g.over) >>= λ _. template_verdi
 
 abbrev pub no_parts : Rule
 no_parts = record { keeps = []; drops = []; alls = []; whens = []; gives = []; givealls = [] }
+
+-- the rule of a record, where there is one
+abbrev pub rule_in : Option RuleRecord → Rule
+rule_in None = no_parts
+rule_in (Some r) = rule_seen r
 
 abbrev pub with_keep : Pattern → Rule → Rule
 with_keep p r = record { keeps = r.keeps ++ (p ∷ []); drops = r.drops; alls = r.alls; whens = r.whens; gives = r.gives; givealls = r.givealls }

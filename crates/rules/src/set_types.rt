@@ -1,6 +1,7 @@
 //! A set of rules while it is written. Each stage has only the functions of the parts that may come next.
 ghost use Rattle.std.specs.Prelude.{◌≡◌, ◌<◌, true};
 ghost use Rattle.rules.specs.Tables.{finished, draft};
+ghost use Rattle.rules.specs.Writing.{no_parts};
 ghost use Rattle.rules.specs.Closed.{accepted, parts_verdict, stand, every_word};
 
 use crate::table_type::Table;
@@ -11,6 +12,7 @@ use std::marker::PhantomData;
 pub struct OpenSet<W> {
     pub(crate) system: PhantomData<W>,
     pub(crate) table: Table,
+    ghost unwritten: { draft table ≡ no_parts },
     ghost stands: { stand every_word (finished table) ≡ true },
 }
 

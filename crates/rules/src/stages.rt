@@ -6,9 +6,9 @@ ghost use Rattle.rules.specs.Closed.{accepted, parts_verdict, stand};
 
 use crate::judging::{Scope, judge_all, judge_over, judge_single};
 use crate::ordering::may_add;
-use crate::rule_types::{Argument, BodyPart, BodySort, HeadPart, HeadSort, RULES, RuleFault, Term};
+use crate::rule_types::{Argument, BodyPart, BodySort, HeadPart, HeadSort, RuleFault, Term};
 use crate::set_types::{OpenSet, RuleBody, RuleHead};
-use crate::table::new_table;
+use crate::table::{new_table, room_behind};
 use facts::Words;
 use std::marker::PhantomData;
 
@@ -27,11 +27,7 @@ impl<W: Words> OpenSet<W> {
     pub fn may_begin(&self) -> Result<(), RuleFault>
         ensures { result ≡ may_begin (finished self.now.table) }
     {
-        if self.table.rules().len() < RULES {
-            Ok(())
-        } else {
-            Err(RuleFault::TooMany)
-        }
+        room_behind(self.table.rules().len())
     }
 
     /// A rule without parts is begun.
@@ -40,8 +36,7 @@ impl<W: Words> OpenSet<W> {
         ensures rules { finished result.table ≡ finished self.table }
         ensures rule { draft result.table ≡ no_parts }
     {
-        let OpenSet { system, mut table } = self;
-        table.clear_draft();
+        let OpenSet { system, table } = self;
         RuleHead { system, table }
     }
 }
@@ -86,6 +81,21 @@ impl<W: Words> RuleHead<W> {
         ensures stands { accepted (parts_verdict W.Words.system.valid (draft self.old.table)) ≡ true → accepted (parts_verdict W.Words.system.valid (draft self.new.table)) ≡ true }
     {
         self.table.add::<W, HeadPart>(part)
+    }
+
+    /// Whether the rule may end: 5 where it has no `drop` head.
+    pub fn may_end(&self) -> Result<(), RuleFault>
+        ensures { result ≡ may_end (draft self.now.table) }
+    {
+        // A rule may end with heads alone: it need give nothing.
+        self.table.may_end()
+    }
+
+    /// Whether one rule more may be begun once this one has ended: 4 where the set then has 32.
+    pub fn may_begin_next(&self) -> Result<(), RuleFault>
+        ensures { result ≡ may_begin (finished self.now.table ++ (draft self.now.table ∷ [])) }
+    {
+        self.table.may_begin_next()
     }
 
     /// The rule's body begins.
@@ -137,12 +147,14 @@ impl<W: Words> RuleBody<W> {
     pub fn may_end(&self) -> Result<(), RuleFault>
         ensures { result ≡ may_end (draft self.now.table) }
     {
-        let rule = self.table.draft();
-        if rule.singles.len() > rule.keep_count {
-            Ok(())
-        } else {
-            Err(RuleFault::NoDrop)
-        }
+        self.table.may_end()
+    }
+
+    /// Whether one rule more may be begun once this one has ended: 4 where the set then has 32.
+    pub fn may_begin_next(&self) -> Result<(), RuleFault>
+        ensures { result ≡ may_begin (finished self.now.table ++ (draft self.now.table ∷ [])) }
+    {
+        self.table.may_begin_next()
     }
 
     /// The rule stands behind the others of the set.
@@ -151,8 +163,8 @@ impl<W: Words> RuleBody<W> {
         ensures rules { finished result.table ≡ finished self.table ++ (draft self.table ∷ []) }
         ensures stands { stand W.Words.system.valid (finished self.table) ≡ true → accepted (parts_verdict W.Words.system.valid (draft self.table)) ≡ true → stand W.Words.system.valid (finished result.table) ≡ true }
     {
-        let RuleBody { system, mut table } = self;
-        table.end_draft();
+        let RuleBody { system, table } = self;
+        let table = table.ended();
         OpenSet { system, table }
     }
 }

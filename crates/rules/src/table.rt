@@ -1,13 +1,14 @@
 //! The rules of a set. The record of the rule being written is lent out of the table to be changed.
-ghost use Rattle.std.specs.Prelude.{◌≡◌, ◌<◌, [], ◌∷◌, ◌++◌, length, map, Ok, OnSome};
+ghost use Rattle.std.specs.Prelude.{◌≡◌, ◌<◌, [], ◌∷◌, ◌++◌, length, map, cond, nat_lt, Ok, Err, OnSome};
+ghost use Rattle.rules.specs.declared.rule_types.RuleFault.TheVariants.{TooMany};
 ghost use Rattle.rules.specs.Writing.{no_parts};
 ghost use Rattle.rules.specs.Rules.{rule_seen, any};
-ghost use Rattle.rules.specs.Tables.{finished, draft, may_begin, WroteAt, Added};
+ghost use Rattle.rules.specs.Tables.{finished, draft, may_begin, may_end, WroteAt, Added};
 ghost use Rattle.rules.specs.Closed.{IsRuleAt, head_count, head_from, place_seen, names, watched_kinds};
 
 use crate::closed_type::KIND_COUNT;
 use crate::rule_types::{
-    Argument, GiveAll, HeadPlace, Operand, Pattern, RuleFault, RuleRecord, Template, Term,
+    Argument, GiveAll, HeadPlace, Operand, Pattern, RULES, RuleFault, RuleRecord, Template, Term,
 };
 use crate::table_type::Table;
 use crate::writing::{BLANK, Part, all_head};
@@ -31,6 +32,8 @@ const NO_GIVEALL: GiveAll = GiveAll {
     each: NO_TEMPLATE,
 };
 
+// Out of line: with its fields in sight, the compiler spends minutes on the 32 copies of it in a table.
+#[inline(never)]
 fn blank_rule() -> RuleRecord
     ensures { rule_seen result ≡ no_parts }
 {
@@ -45,10 +48,22 @@ fn blank_rule() -> RuleRecord
 }
 
 pub(crate) fn new_table() -> Table
-    ensures { finished result ≡ [] }
+    ensures rules { finished result ≡ [] }
+    ensures rule { draft result ≡ no_parts }
 {
     Table {
         rules: FixedList::new(blank_rule()),
+    }
+}
+
+// Whether one rule more may be begun behind so many.
+pub(crate) fn room_behind(count: usize) -> Result<(), RuleFault>
+    ensures { result ≡ cond (nat_lt count 32) (Ok tt) (Err TooMany) }
+{
+    if count < RULES {
+        Ok(())
+    } else {
+        Err(RuleFault::TooMany)
     }
 }
 
@@ -88,23 +103,40 @@ impl Table {
         &self.rules.items[self.rules.count]
     }
 
-    // The record behind the last rule is made blank.
-    pub(crate) fn clear_draft(&mut self)
-        requires { may_begin (finished self.old) ≡ Ok tt }
-        ensures rules { finished self.new ≡ finished self.old }
-        ensures rule { draft self.new ≡ no_parts }
-        ensures room { self.new.rules.count < 32 }
+    // Whether the rule being written may end.
+    pub(crate) fn may_end(&self) -> Result<(), RuleFault>
+        requires { self.now.rules.count < 32 }
+        ensures { result ≡ may_end (draft self.now) }
     {
-        let at = self.rules.count;
-        self.rules.items[at] = blank_rule();
+        let rule = self.draft();
+        if rule.singles.len() > rule.keep_count {
+            Ok(())
+        } else {
+            Err(RuleFault::NoDrop)
+        }
     }
 
-    // The rule being written becomes the last rule.
-    pub(crate) fn end_draft(&mut self)
-        requires { self.old.rules.count < 32 }
-        ensures { finished self.new ≡ finished self.old ++ (draft self.old ∷ []) }
+    // Whether one rule more may be begun behind the one being written.
+    pub(crate) fn may_begin_next(&self) -> Result<(), RuleFault>
+        ensures { result ≡ may_begin (finished self.now ++ (draft self.now ∷ [])) }
     {
-        self.rules.count += 1;
+        room_behind(self.rules().len() + 1)
+    }
+
+    // The rule being written becomes the last rule. By value, and the records in one piece, so that they are moved once.
+    pub(crate) fn ended(self) -> Table
+        requires { self.rules.count < 32 }
+        ensures rules { finished result ≡ finished self ++ (draft self ∷ []) }
+        ensures rule { draft result ≡ no_parts }
+    {
+        let Table { rules } = self;
+        let FixedList { items, count } = rules;
+        Table {
+            rules: FixedList {
+                items,
+                count: count + 1,
+            },
+        }
     }
 
     // The rule being written gets one part more, or the part is turned down.

@@ -23,7 +23,7 @@ returns-then-not-all_have_candidates g c =
 
 pub search_from-requires : goal.search_from-requires
 search_from-requires g c =
-    subst (λ (ls : List ℕ). IsPartial (g.S.Store.meaning c.args.store.now).pairs (rule_seen c.args.rule.now) c.args.place c.args.active ls c.bind_fact.new.letters) (sym c.new.ensures)
+    subst (λ (ls : List ℕ). IsPartial (g.S.Store.meaning c.args.store.now).pairs (rule_seen c.args.rule.now) c.args.place c.args.active ls c.bind_fact.new.letters) (sym c.new.ensures.held)
     (search_partial g.W.Words.system c.args.rule.now c.args.place c.args.active (g.S.Store.meaning c.args.store.now).pairs c.args.fact.now
     c.as_slice.result.now c.as_slice.ensures.items c.requires.place c.requires.stands c.requires.held (owed-rising (g.S.Store.meaning c.args.store.now) (g.S.Store.owed c.args.store.now))
     c.bind_fact.new.letters (sym c.bind_fact.ensures ∙ ap (option_map (λ u. c.bind_fact.new.letters)) c.in_ok-bind_fact.was))
@@ -32,4 +32,4 @@ pub returns : goal.returns
 returns g c =
     search_found g.W.Words.system c.args.rule.now c.args.place c.args.active (g.S.Store.meaning c.args.store.now).pairs c.args.fact.now
     c.as_slice.result.now c.as_slice.ensures.items c.requires.place c.requires.stands c.requires.held (owed-rising (g.S.Store.meaning c.args.store.now) (g.S.Store.owed c.args.store.now))
-    (held c.new.result) c.new.ensures c.search_from.result c.search_from.ensures
+    (held c.new.result) c.new.ensures.held c.search_from.result c.search_from.ensures

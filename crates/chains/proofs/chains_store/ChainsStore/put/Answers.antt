@@ -20,10 +20,10 @@ returns-then-is_some c =
 pub returns-in_err-i : goal.returns-in_err-i
 returns-in_err-i c =
     let m = pile_of (rows_of c.args.self.now.linked.table.now) in
-    let u = c.take.new.self in
+    let u = c.cleared.new.self in
     let p = pair-fits c.args.label c.args.fact c.check_pair.result c.in_ok-check_pair.field-0 c.check_pair.ensures c.in_ok-check_pair.was in
     let q = not-replaced c.replaced.result c.args.label c.args.fact (rows_of c.args.self.now.linked.table.now) (rows_of c.replaced.new.self.linked.table.now) c.replaced.ensures (search rules) in
-    let e = subst (λ (r : List Row). pile_of (rows_of u.linked.table.now) ≡ after_take c.args.label (pile_of r)) q c.take.ensures.after in
+    let e = subst (λ (r : List Row). pile_of (rows_of u.linked.table.now) ≡ after_take c.args.label (pile_of r)) q c.cleared.ensures in
     let f : c.from_residual-in_err-i.result ≡ Err Full = search rules in
     let n = rows-length u.linked.table.now in
     let k = u.chained.counted in
@@ -37,16 +37,16 @@ returns-in_err-i c =
 
 pub add-requires-clause-new : goal.add-requires-clause-new
 add-requires-clause-new c =
-    let e = ap (λ m. m.pairs) c.take.ensures.after in
+    let e = ap (λ m. m.pairs) c.cleared.ensures in
     rw e (read-gone c.args.label (pairs_of (rows_of c.replaced.new.self.linked.table.now)))
 
 pub returns : goal.returns
 returns c =
     let m = pile_of (rows_of c.args.self.now.linked.table.now) in
-    let u = c.take.new.self in
+    let u = c.cleared.new.self in
     let p = pair-fits c.args.label c.args.fact c.check_pair.result c.in_ok-check_pair.field-0 c.check_pair.ensures c.in_ok-check_pair.was in
     let q = not-replaced c.replaced.result c.args.label c.args.fact (rows_of c.args.self.now.linked.table.now) (rows_of c.replaced.new.self.linked.table.now) c.replaced.ensures (search rules) in
-    let e = subst (λ (r : List Row). pile_of (rows_of u.linked.table.now) ≡ after_take c.args.label (pile_of r)) q c.take.ensures.after in
+    let e = subst (λ (r : List Row). pile_of (rows_of u.linked.table.now) ≡ after_take c.args.label (pile_of r)) q c.cleared.ensures in
     let n = rows-length u.linked.table.now in
     let k = u.chained.counted in
     let o = some-room u.linked.table.now u.linked.heads c.in_ok-i.i u.chained (some-first u.linked.heads.free c.ok_or.result Full c.in_ok-i.i c.ok_or.ensures.value c.in_ok-i.was) in
