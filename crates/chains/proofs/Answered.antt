@@ -1,6 +1,5 @@
 -- What is found by a place on a chain, in the language of the pairs.
-use Rattle.std.proofs.Common.{◌≡◌, ℕ, suc, ◌-◌, ◌<◌, ◌≤◌, ◌%◌, Bool, true, false, cond, eqb, List, [], ◌∷◌, get_or, ℤ, pos, negsuc, Some, None, Option, refl, sym, ap, subst, ◌∙◌, arith}
-use Rattle.std.specs.Bool.{then_some}
+use Rattle.std.proofs.Common.{◌≡◌, ℕ, suc, ◌-◌, ◌<◌, ◌≤◌, ◌%◌, Bool, true, false, cond, eqb, List, [], ◌∷◌, get_or, ℤ, pos, negsuc, is_some, Some, None, Option, refl, sym, ap, subst, ◌∙◌, arith}
 use Rattle.std.proofs.lemmas.Bool.{and_parts, eqb-true, eq-eqb, false≢true}
 use Rattle.std.proofs.lemmas.Bool.Decides.{nat_tests}
 use Rattle.facts.specs.declared.fact_types.Fact.{Fact}
@@ -11,7 +10,7 @@ use Rattle.stores.specs.Table.{Row, pairs_of, pile_of, distinct}
 use Rattle.stores.proofs.Tables.{rises-pairs}
 use Rattle.chains.specs.Links.{next_in, on_chain, has_label, points, Linked}
 use Rattle.chains.specs.Rows.{magnitude, chain_of, chain_at}
-use Rattle.chains.specs.Acts.{label_in, asked_label, Finds}
+use Rattle.chains.specs.Acts.{label_in, asked_label, with_label, having, Finds}
 use Rattle.chains.specs.declared.chain_types.Way.TheVariants.{ByLabel, ByKind, ByWord}
 use Rattle.chains.proofs.Nexts.{passes_at, next_in_that, next-none, next-less, next-same, next-passes}
 use Rattle.chains.proofs.Named.{used-read, all-read, owed-pairs}
@@ -52,13 +51,31 @@ found-not R at l h p n = go (read l (pairs_of R)) refl
     go None e = e
     go (Some f) e = let z = found-at R at l f h e p in absurd (false≢true (sym n ∙ z))
 
--- what is found at its place: the label's fact, or that of another label
-pub found : (R : List Row) (i l m : ℕ) (f : Fact) → 1 ≤ l → points R (Some i) (next_in (on_chain (chain_at ByLabel) (l % 64)) (l - 1) (pairs_of R)) ≡ true → get_or R i None ≡ Some (m, f) → Finds l R (then_some (eqb m l) (i, f))
-found R i l m f h p e = go (eqb m l) refl
+-- what is found in a row that is named: the label's fact
+pub having-some : (l : ℕ) (R : List Row) (at : Option ℕ) → is_some (having l R at) ≡ true → Finds l R (having l R at)
+having-some l R None e = absurd (false≢true e)
+having-some l R (Some i) e = go (get_or R i None) refl e
   where
-    go : (b : Bool) → eqb m l ≡ b → Finds l R (then_some b (i, f))
-    go true q = e ∙ ap (λ (n : ℕ). Some (n, f)) (eqb-true m l q)
-    go false q = found-not R (Some i) l h p (ap (has_label l) e ∙ q)
+    go : (r : Row) → get_or R i None ≡ r → is_some (with_label l i r) ≡ true → Finds l R (with_label l i r)
+    go None y e = absurd (false≢true e)
+    go (Some (m, f)) y e = pick (eqb m l) refl e
+      where
+        pick : (b : Bool) → eqb m l ≡ b → is_some {T = ℕ × Fact} (cond b (Some (i, f)) None) ≡ true → Finds l R (cond b (Some (i, f)) None)
+        pick true q e = y ∙ ap (λ (n : ℕ). Some (n, f)) (eqb-true m l q)
+        pick false q e = absurd (false≢true e)
+
+-- what is found at its place: the label's fact, or none where no row has the label
+pub having-placed : (l : ℕ) (R : List Row) (at : Option ℕ) → 1 ≤ l → points R at (next_in (on_chain (chain_at ByLabel) (l % 64)) (l - 1) (pairs_of R)) ≡ true → Finds l R (having l R at)
+having-placed l R None h p = found-not R None l h p refl
+having-placed l R (Some i) h p = go (get_or R i None) refl
+  where
+    go : (r : Row) → get_or R i None ≡ r → Finds l R (with_label l i r)
+    go None y = found-not R (Some i) l h p (ap (has_label l) y)
+    go (Some (m, f)) y = pick (eqb m l) refl
+      where
+        pick : (b : Bool) → eqb m l ≡ b → Finds l R (cond b (Some (i, f)) None)
+        pick true q = y ∙ ap (λ (n : ℕ). Some (n, f)) (eqb-true m l q)
+        pick false q = found-not R (Some i) l h p (ap (has_label l) y ∙ q)
 
 -- the first label of a kind ------------------------------------------------------------------------------------
 

@@ -30,6 +30,16 @@ behind n i = cond (nat_lt (i + 1) n) (Some (i + 1)) None
 pub record AllFree (t : List ChainRow) : Type 0 where
   pub each : (i : ℕ) → i < length t → slice_index_or t i (free_row None) ≡ free_row (behind (length t) i)
 
+-- a row and its fact, where the row has a label; else none
+abbrev pub with_label : ℕ → ℕ → Row → Option (ℕ × Fact)
+with_label l i None = None
+with_label l i (Some (m, f)) = cond (m == l) (Some (i, f)) None
+
+-- the row that is named and its fact, where the row has the label; else none
+abbrev pub having : ℕ → List Row → Option ℕ → Option (ℕ × Fact)
+having l rows None = None
+having l rows (Some i) = with_label l i (slice_index_or rows i None)
+
 -- the row of a label and its fact, or none where the label is not held
 abbrev pub Finds : ℕ → List Row → Option (ℕ × Fact) → Type 0
 Finds l rows None = read l (pairs_of rows) ≡ None

@@ -39,7 +39,7 @@ pub(crate) struct Link {
 pub(crate) const NO_ROW: Link = Link { number: 1_024 };
 
 /// A row of the table, and for each way a link to the row after it on its chain, and a hint of the row before it. A free row's link by
-/// label leads to the next free row. A hint is looked at before it is followed, so that none has to be right.
+/// label leads to the next free row. The row of a hint is looked at before it is used, so that none has to be right.
 #[derive(Clone, Copy)]
 pub struct ChainRow {
     pub(crate) row: Row,

@@ -6,7 +6,7 @@ ghost use Rattle.stores.specs.Table.{pile_of, pairs_of};
 ghost use Rattle.chains.specs.Links.{points, next_in, on_chain};
 ghost use Rattle.chains.specs.Rows.{rows_of, chain_at};
 ghost use Rattle.chains.specs.declared.chain_types.Way.TheVariants.{ByLabel};
-ghost use Rattle.chains.specs.Acts.{asked_label, Finds, Replaces};
+ghost use Rattle.chains.specs.Acts.{asked_label, having, Finds, Replaces};
 
 use crate::chain_types::{Chain, ChainRow, Way};
 use crate::chains_type::Chains;
@@ -31,14 +31,12 @@ fn label_chain(label: u32) -> Chain
 }
 
 impl Chains<'_> {
-    /// A row and its fact, where the row has the label, or none.
+    /// The row that is named and its fact, where the row has the label; else none.
     fn found(&self, label: u32, at: Option<u32>) -> Option<(u32, Fact)>
-        requires one { 1 ≤ label }
-        requires first { points (rows_of self.now.linked.table.now) at (next_in (on_chain (chain_at ByLabel) (label % 64)) (label - 1) (pairs_of (rows_of self.now.linked.table.now))) ≡ true }
-        ensures { Finds label (rows_of self.now.linked.table.now) result }
+        ensures { result ≡ having label (rows_of self.now.linked.table.now) at }
     {
         let at = at?;
-        let (held, fact) = self.linked.table[at as usize].row?;
+        let (held, fact) = self.linked.table.get(at as usize)?.row?;
         (held == label).then_some((at, fact))
     }
 
@@ -119,7 +117,14 @@ impl Store for Chains<'_> {
         self.linked.heads.count
     }
 
+    /// A job asks most for the label that it put last, which the last row of the label's chain has.
+    // Inlined, as the search reads each candidate: called out of line, the workload `shortest` took 4 in 100 more instructions.
+    #[inline]
     fn read(&self, label: u32) -> Option<Fact> {
+        let last = self.linked.heads.last(label_chain(label));
+        if let Some((_, fact)) = self.found(label, last) {
+            return Some(fact);
+        }
         let (_, fact) = self.held(label)?;
         Some(fact)
     }

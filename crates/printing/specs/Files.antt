@@ -2,9 +2,7 @@
 use Rattle.std.specs.Prelude.{ℕ, Bool, List, ℤ, None, Ok, Err, Option, Result}
 use Rattle.facts.specs.System.{System}
 use Rattle.facts.specs.declared.fact_types.Fact.{Fact}
-use Rattle.rules.specs.declared.closed_type.ClosedSet.{ClosedSet}
 use Rattle.rules.specs.Rules.{Rule}
-use Rattle.rules.specs.Sets.{closed_rules}
 use Rattle.stores.specs.Piles.{Pile}
 use Rattle.machine.specs.declared.answer_types.End.{End}
 use Rattle.rows.specs.Refusals.{Outcome, ◌>>=◌}
@@ -20,10 +18,10 @@ job_files valid rules facts = do
   fs ← facts_file valid facts
   Ok (rs, fs)
 
--- what was read: a closed set and a list of facts
-abbrev pub job_read : {W : Type 0} → Result (ClosedSet W) Refused → List Fact → Outcome (List Rule × List Fact)
-job_read (Ok s) fs = Ok (closed_rules s, fs)
-job_read (Err e) fs = Err e.refusal
+-- what was read: rules and facts, where neither file was refused
+abbrev pub job_read : Result (Unit {0}) Refused → List Rule → List Fact → Outcome (List Rule × List Fact)
+job_read (Ok u) rs fs = Ok (rs, fs)
+job_read (Err e) rs fs = Err e.refusal
 
 -- the end of the job that was read, or none where a file is refused
 abbrev pub read_end : System → Pile → Outcome (List Rule × List Fact) → Option (End × ℕ)

@@ -7,7 +7,7 @@ ghost use Rattle.facts.specs.Lengths.{lengths};
 ghost use Rattle.facts_file.specs.Facts.{facts_file, facts_before, over, FactsLoaded};
 ghost use Rattle.rules_file.specs.RuleRows.{rules_file};
 ghost use Rattle.rules_file.specs.RulesWritten.{RulesLoaded};
-ghost use Rattle.reader.specs.RuleScan.{closed_result};
+ghost use Rattle.reader.specs.FileRules.{file_rules, accepted};
 ghost use Rattle.printing.specs.Print.{refuse_row, line_text};
 ghost use Rattle.printing.specs.Checks.{outcome_of, print_of, check_print};
 
@@ -15,8 +15,7 @@ use crate::lines::refuse_row;
 use crate::refused_type::Refused;
 use facts::{Fact, Lengths, Words};
 use lists::FixedList;
-use reader::{MOST_FACTS, Refusal, load_facts, load_rules};
-use rules::ClosedSet;
+use reader::{FileRules, MOST_FACTS, Refusal, load_facts};
 
 impl From<Refusal> for Refused {
     ghost from_gives = { λ r e. (e.refusal ≡ r) × (line_text e.line ≡ refuse_row r) };
@@ -27,13 +26,14 @@ impl From<Refusal> for Refused {
     }
 }
 
-/// Reads a file of rules into a closed set; none for the file is a file that is not there. Where it is accepted, nothing is printed.
-pub fn check_rules(file: Option<&[u8]>) -> Result<ClosedSet<Lengths>, Refused>
-    ensures outcome { closed_result (outcome_of result) ≡ rules_file lengths.valid (option_map (λ x. x.now) file.entry) }
+/// Reads a file of rules; none for the file is a file that is not there. Where it is accepted, nothing is printed.
+pub fn check_rules(file: Option<&[u8]>, rules: &mut FileRules<Lengths>) -> Result<(), Refused>
+    ensures outcome { result_and (outcome_of result) (Ok (file_rules rules.new)) ≡ rules_file lengths.valid (option_map (λ x. x.now) file.entry) }
     ensures print { print_of result ≡ check_print (rules_file lengths.valid (option_map (λ x. x.now) file.entry)) }
-    ensures loaded { RulesLoaded lengths.valid (option_map (λ x. x.now) file.entry) (closed_result (outcome_of result)) }
+    ensures rules { file_rules rules.new ≡ accepted (rules_file lengths.valid (option_map (λ x. x.now) file.entry)) }
+    ensures loaded { RulesLoaded lengths.valid (option_map (λ x. x.now) file.entry) (result_and (outcome_of result) (Ok (file_rules rules.new))) }
 {
-    Ok(load_rules::<Lengths>(file)?)
+    Ok(rules.load(file)?)
 }
 
 /// Checks a file of facts; none for the file is a file that is not there.

@@ -3,6 +3,7 @@ ghost use Rattle.std.specs.Prelude.{◌≡◌, IfOk};
 ghost use Rattle.std.specs.Option.{option_map};
 ghost use Rattle.lists.specs.Held.{held};
 ghost use Rattle.facts.specs.Lengths.{lengths};
+ghost use Rattle.reader.specs.FileRules.{file_rules};
 ghost use Rattle.printing.specs.Files.{job_files, job_read, read_end};
 
 use crate::checks::{check_facts, check_rules};
@@ -11,22 +12,21 @@ use crate::refused_type::Refused;
 use facts::{Fact, Lengths};
 use lists::FixedList;
 use machine::End;
-use reader::{MOST_FACTS, no_facts};
-use rules::ClosedSet;
+use reader::{FileRules, MOST_FACTS, no_facts};
 use std::io;
 use stores::Store;
 
-// The rules, and the facts go into the list. Not `read_job` of `runplan`, which opens the files and says why one is refused.
+// Rules and facts. Not `read_job` of `runplan`, which opens the files and says why one is refused.
 fn read_files(
     rules: Option<&[u8]>,
     facts: Option<&[u8]>,
+    read: &mut FileRules<Lengths>,
     posted: &mut FixedList<Fact, MOST_FACTS>,
-) -> Result<ClosedSet<Lengths>, Refused>
-    ensures { job_read result (held posted.new) ≡ job_files lengths.valid (option_map (λ x. x.now) rules.entry) (option_map (λ x. x.now) facts.entry) }
+) -> Result<(), Refused>
+    ensures { job_read result (file_rules read.new) (held posted.new) ≡ job_files lengths.valid (option_map (λ x. x.now) rules.entry) (option_map (λ x. x.now) facts.entry) }
 {
-    let set = check_rules(rules)?;
-    check_facts(facts, posted)?;
-    Ok(set)
+    check_rules(rules, read)?;
+    check_facts(facts, posted)
 }
 
 /// The job of two files over an empty store is printed as `print_job` prints it, or the row of the first file that is refused; none for a
@@ -39,9 +39,10 @@ pub fn print_files<S: Store + Drop, R: Print>(
 ) -> io::Result<Option<(End, u32)>>
     ensures { IfOk result (λ answer. answer ≡ read_end lengths (S.meaning store) (job_files lengths.valid (option_map (λ x. x.now) rules.entry) (option_map (λ x. x.now) facts.entry))) }
 {
+    let mut read = FileRules::new();
     let mut posted = no_facts();
-    match read_files(rules, facts, &mut posted) {
-        Ok(set) => print_job(rt, set, store, posted.as_slice()),
+    match read_files(rules, facts, &mut read, &mut posted) {
+        Ok(()) => print_job(rt, read.close(), store, posted.as_slice()),
         Err(refused) => {
             rt.write_all(refused.line.text())?;
             Ok(None)

@@ -1,14 +1,17 @@
 -- The loader of rules: a row's six fields, and its loop over the rows.
 use Rattle.std.proofs.Common.{◌≡◌, ℕ, suc, ◌+◌, ◌<◌, ◌≤◌, Bool, List, [], ◌∷◌, map, length, ℤ, Some, None, Ok, Err, Option, sym, refl, ap, ◌∙◌, arith}
-use Rattle.std.proofs.lemmas.Bool.{eq-eqb, ne_eqb, le-ltb}
+use Rattle.std.specs.Result.{result_and}
+use Rattle.std.proofs.lemmas.Bool.{eq-eqb, ne_eqb}
 use Rattle.rules.specs.Rules.{Rule}
 use Rattle.rows.specs.Csv.{Part, content, Read, got, broken, read_row, counted, of_width, behind_row, rows}
-use Rattle.rows.specs.Refusals.{Outcome, refuse, ◌>>=◌, most_bytes}
+use Rattle.rows.specs.Refusals.{Outcome, refuse, ◌>>=◌}
+use Rattle.rules_file.specs.RuleRefusals.{NamedRules}
 use Rattle.rules_file.specs.RuleRows.{State, no_rule, word, at, write_word, write_row, write_rows, rules_file}
 use Rattle.reader.specs.RuleScan.{cells, with_text, text_then, texts_at, SixFields, NotSix}
 use Rattle.reader.specs.declared.row_types.RuleRow.{RuleRow}
 use Rattle.rows.specs.declared.refusal_types.Layer.TheVariants.{Reader}
 use Rattle.rows.specs.declared.refusal_types.Refusal.{Refusal}
+use Rattle.rules_file.proofs.NamedRules.{rules-named}
 use Rattle.rows.proofs.Sorted.{GoesOn, goes, first_field}
 use Rattle.rows.proofs.Rows.{counted-got, rows_step, rows_end, row_shorter, wide-got}
 
@@ -87,5 +90,6 @@ rules-end valid bs st row rest inv none = inv.outcome ∙ ap (write_rows valid r
 
 -- a whole file ---------------------------------------------------------------------------------------------------------------
 
-pub short-rules : (valid : ℤ → Bool) (file : Option (List ℕ)) (bs : List ℕ) (r : Outcome (List Rule)) → file ≡ Some bs → length bs ≤ most_bytes → r ≡ write_rows valid 1 no_rule (rows bs) → r ≡ rules_file valid file
-short-rules valid file bs r e l h = h ∙ sym (ap (rules_file valid) e ∙ rw (le-ltb most_bytes (length bs) l))
+pub load-named : (valid : ℤ → Bool) (file : Option (List ℕ)) (r : Outcome (Unit {0})) (rules : List Rule) → result_and r (Ok rules) ≡ rules_file valid file → NamedRules r
+load-named valid file (Ok u) rules h = tt
+load-named valid file (Err e) rules h = rules-named valid file (Err e) h

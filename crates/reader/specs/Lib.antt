@@ -1,1 +1,2 @@
 pub mod RuleScan
+pub mod FileRules

@@ -109,7 +109,8 @@ impl<W: Words> Stage<W> {
     }
 
     // A rule is begun behind the others. The rule being written, if there is one, becomes one of them.
-    // Each move goes back to where it came from, with nothing between, so that few copies of the whole table are left.
+    // The `match` moves the set out and each arm moves it back to the same place, with nothing between, so that no copy of the table is left.
+    // The first rule is begun apart from them: with an arm that makes a new table, the compiler copies the set in every arm.
     fn begin_next(&mut self, row: u32)
         requires may_end { finished (stage_seen self.old) ≡ Ok (all_rules (stage_seen self.old)) }
         requires may_begin { may_begin (all_rules (stage_seen self.old)) ≡ Ok tt }
@@ -120,9 +121,10 @@ impl<W: Words> Stage<W> {
             self.begin_first(row);
             return;
         }
-        self.begin_body();
-        if let Stage::Body(body, _) = mem::replace(self, Stage::Before) {
-            *self = Stage::Head(body.end().begin(), row);
+        match mem::replace(self, Stage::Before) {
+            Stage::Before => unreachable!(),
+            Stage::Head(rule, _) => *self = Stage::Head(rule.body().end().begin(), row),
+            Stage::Body(body, _) => *self = Stage::Head(body.end().begin(), row),
         }
     }
 

@@ -1,10 +1,7 @@
 -- Outcomes: a value or a refusal.
-use Rattle.std.proofs.Common.{◌≡◌, ℕ, ◌≤◌, Bool, true, false, cond, ltb, List, length, Some, None, Ok, Err, Option, Result, sym, refl, ap, subst, arith}
+use Rattle.std.proofs.Common.{◌≡◌, ℕ, Bool, true, false, cond, Some, None, Ok, Err, Option, Result, refl, arith}
 use Rattle.std.specs.Option.{ok_or}
-use Rattle.std.proofs.lemmas.Bool.{ltb-false}
-use Rattle.rows.specs.declared.refusal_types.Layer.TheVariants.{Reader}
-use Rattle.rows.specs.declared.refusal_types.Refusal.{Refusal}
-use Rattle.rows.specs.Refusals.{refusal, ◌>>=◌, most_bytes, file_bytes}
+use Rattle.rows.specs.Refusals.{◌>>=◌}
 
 pub no_ok : {X E : Type 0} (e : E) (x : X) → ◌≡◌ {A = Result X E} (Err e) (Ok x) → ⊥
 no_ok e x h = let z : ◌≡◌ {A = ℕ} 0 1 = cc in omega arith
@@ -33,12 +30,3 @@ let_by false e r x h = (refl, h)
 pub let_in : {X E : Type 0} (b : Bool) (e : E) (r : Result X E) (x : X) → cond b r (Err e) ≡ Ok x → (b ≡ true) × (r ≡ Ok x)
 let_in true e r x h = (refl, h)
 let_in false e r x h = absurd (no_ok e x h)
-
--- the bytes of a file -------------------------------------------------------------------------------------------------
-
-pub bytes-there : (file : Option (List ℕ)) (bs : List ℕ) → Ok bs ≡ file_bytes file → (file ≡ Some bs) × (length bs ≤ most_bytes)
-bytes-there None bs h = absurd (no_ok _ bs (sym h))
-bytes-there (Some cs) bs h =
-    let w = let_by (ltb most_bytes (length cs)) (refusal 7 0 0 Reader) (Ok cs) bs (sym h) in
-    let same : cs ≡ bs = same_ok {E = Refusal} cs bs w.1 in
-    (ap Some same, subst (λ (x : List ℕ). length x ≤ most_bytes) same (ltb-false most_bytes (length cs) w.0))

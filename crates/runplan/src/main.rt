@@ -13,8 +13,7 @@ use input::{BUFFER, PATH, argument, argument_count, read_file};
 use lists::FixedList;
 use machine::End;
 use printing::{CAPACITY, Refused, check_facts, check_rules, print_job};
-use reader::{MOST_FACTS, no_facts};
-use rules::ClosedSet;
+use reader::{FileRules, MOST_FACTS, no_facts};
 use std::fs::Files;
 use std::io;
 use std::process::ExitCode;
@@ -52,19 +51,19 @@ impl From<io::Error> for Failed {
     }
 }
 
-// What the check makes of the file; where it is refused, its row is printed, and a sentence says why.
-fn read<T: Drop, R: Files + Print + Eprint, C: FnOnce(Option<&[u8]>) -> Result<T, Refused>>(
+// Puts the file to the check; where it is refused, its row is printed, and a sentence says why.
+fn read<R: Files + Print + Eprint, C: FnOnce(Option<&[u8]>) -> Result<(), Refused>>(
     rt: &R,
     source: Source,
     path: &str,
     check: C,
-) -> Result<T, Failed>
+) -> Result<(), Failed>
     requires { C.IsAlwaysCallable check }
 {
     let mut buffer = [0; BUFFER];
     let file = read_file(rt, path, &mut buffer);
     match check(file) {
-        Ok(value) => Ok(value),
+        Ok(()) => Ok(()),
         Err(Refused { refusal, line }) => {
             rt.write_all(line.text())?;
             explain_refusal(rt, source, path, file.is_some(), &refusal)?;
@@ -81,20 +80,27 @@ fn read_facts<R: Files + Print + Eprint>(
     read(rt, Source::Facts, path, |file| check_facts(file, facts))
 }
 
-// The rules, and the facts go into the list. The rules file is read to its end before the facts file is opened.
+// The rules file is read to its end before the facts file is opened.
 fn read_job<R: Files + Print + Eprint>(
     rt: &R,
     paths: Paths<'_>,
+    rules: &mut FileRules<Lengths>,
     facts: &mut FixedList<Fact, MOST_FACTS>,
-) -> Result<ClosedSet<Lengths>, Failed> {
-    let set = read(rt, Source::Rules, paths.rules, |file| check_rules(file))?;
-    read_facts(rt, paths.facts, facts)?;
-    Ok(set)
+) -> Result<(), Failed> {
+    read(
+        rt,
+        Source::Rules,
+        paths.rules,
+        |file| check_rules(file, rules),
+    )?;
+    read_facts(rt, paths.facts, facts)
 }
 
 fn check<R: Files + Print + Eprint>(rt: &R, paths: Paths<'_>) -> Result<(), Failed> {
+    let mut rules = FileRules::new();
     let mut survey = no_facts();
-    let set = read_job(rt, paths, &mut survey)?;
+    read_job(rt, paths, &mut rules, &mut survey)?;
+    let set = rules.close();
     let rule_count = set.rule_count();
     let heads = set.head_count();
     let fact_count = survey.len();
@@ -112,11 +118,12 @@ fn check_survey<R: Files + Print + Eprint>(rt: &R, path: &str) -> Result<(), Fai
 
 // The job is printed, and a sentence says why it did not end quiet.
 fn plan<R: Files + Print + Eprint>(rt: &R, paths: Paths<'_>) -> Result<(), Failed> {
+    let mut rules = FileRules::new();
     let mut facts = no_facts();
-    let set = read_job(rt, paths, &mut facts)?;
+    read_job(rt, paths, &mut rules, &mut facts)?;
     let mut rows = [None; CAPACITY];
     let store = Rows::new(&mut rows);
-    match print_job(rt, set, store, facts.as_slice())? {
+    match print_job(rt, rules.close(), store, facts.as_slice())? {
         Some((End::Quiet, _)) => Ok(()),
         Some((end, steps)) => {
             explain_end(rt, end, steps)?;
