@@ -7,7 +7,7 @@ ghost use Rattle.facts.specs.Lengths.{lengths};
 ghost use Rattle.facts_file.specs.Facts.{facts_file, facts_before, over, FactsLoaded};
 ghost use Rattle.rules_file.specs.RuleRows.{rules_file};
 ghost use Rattle.rules_file.specs.RulesWritten.{RulesLoaded};
-ghost use Rattle.reader.specs.FileRules.{file_rules, accepted};
+ghost use Rattle.reader.specs.FileRules.{file_rules, rules_left};
 ghost use Rattle.printing.specs.Print.{refuse_row, line_text};
 ghost use Rattle.printing.specs.Checks.{outcome_of, print_of, check_print};
 
@@ -30,7 +30,7 @@ impl From<Refusal> for Refused {
 pub fn check_rules(file: Option<&[u8]>, rules: &mut FileRules<Lengths>) -> Result<(), Refused>
     ensures outcome { result_and (outcome_of result) (Ok (file_rules rules.new)) ≡ rules_file lengths.valid (option_map (λ x. x.now) file.entry) }
     ensures print { print_of result ≡ check_print (rules_file lengths.valid (option_map (λ x. x.now) file.entry)) }
-    ensures rules { file_rules rules.new ≡ accepted (rules_file lengths.valid (option_map (λ x. x.now) file.entry)) }
+    ensures rules { file_rules rules.new ≡ rules_left (rules_file lengths.valid (option_map (λ x. x.now) file.entry)) }
     ensures loaded { RulesLoaded lengths.valid (option_map (λ x. x.now) file.entry) (result_and (outcome_of result) (Ok (file_rules rules.new))) }
 {
     Ok(rules.load(file)?)

@@ -8,7 +8,7 @@ use Rattle.reader.specs.declared.file_rules_type.FileRules.{FileRules}
 abbrev pub file_rules : {W : Type 0} → FileRules W → List Rule
 file_rules f = all_rules (stage_seen f.stage)
 
--- the rules of a file that is accepted, or none
-abbrev pub accepted : Outcome (List Rule) → List Rule
-accepted (Ok rules) = rules
-accepted (Err r) = []
+-- the rules that a file leaves: its own where it is accepted, else none
+abbrev pub rules_left : Outcome (List Rule) → List Rule
+rules_left (Ok rules) = rules
+rules_left (Err r) = []

@@ -8,7 +8,7 @@ ghost use Rattle.rows.specs.Refusals.{refused_as};
 ghost use Rattle.rules_file.specs.RuleRefusals.{row_refusal, NamedRules};
 ghost use Rattle.rules_file.specs.RuleRows.{no_rule, finished, write_rows, rules_file};
 ghost use Rattle.reader.specs.RuleScan.{RowRead, closed_result, stage_seen, all_rules, written};
-ghost use Rattle.reader.specs.FileRules.{file_rules, accepted};
+ghost use Rattle.reader.specs.FileRules.{file_rules, rules_left};
 ghost use Rattle.rules_file.specs.RulesWritten.{RulesLoaded};
 
 use crate::file_rules_type::FileRules;
@@ -60,7 +60,7 @@ fn load_file<W: Words>(stage: &mut Stage<W>, file: Option<&[u8]>) -> Result<(), 
 // The same, whatever the stage was; where the file is refused, it is as before a first row.
 fn load_stage<W: Words>(stage: &mut Stage<W>, file: Option<&[u8]>) -> Result<(), Refusal>
     ensures answer { result_and result (Ok (all_rules (stage_seen stage.new))) ≡ rules_file W.Words.system.valid (option_map (λ x. x.now) file.entry) }
-    ensures rules { all_rules (stage_seen stage.new) ≡ accepted (rules_file W.Words.system.valid (option_map (λ x. x.now) file.entry)) }
+    ensures rules { all_rules (stage_seen stage.new) ≡ rules_left (rules_file W.Words.system.valid (option_map (λ x. x.now) file.entry)) }
     ensures ended { finished (stage_seen stage.new) ≡ Ok (all_rules (stage_seen stage.new)) }
 {
     *stage = Stage::Before;
@@ -85,7 +85,7 @@ impl<W: Words> FileRules<W> {
     /// rules.
     pub fn load(&mut self, file: Option<&[u8]>) -> Result<(), Refusal>
         ensures answer { result_and result (Ok (file_rules self.new)) ≡ rules_file W.Words.system.valid (option_map (λ x. x.now) file.entry) }
-        ensures rules { file_rules self.new ≡ accepted (rules_file W.Words.system.valid (option_map (λ x. x.now) file.entry)) }
+        ensures rules { file_rules self.new ≡ rules_left (rules_file W.Words.system.valid (option_map (λ x. x.now) file.entry)) }
         ensures named { NamedRules result }
         ensures loaded { RulesLoaded W.Words.system.valid (option_map (λ x. x.now) file.entry) (result_and result (Ok (file_rules self.new))) }
     {
