@@ -18,6 +18,14 @@ impl Line {
         }
     }
 
+    // By a method, since a line is whole again behind it: a row is made in a loop, at whose turns the type has to hold.
+    fn push_text(&mut self, text: &str)
+        requires { length (line_text self.old) + length text.now ≤ 128 }
+        ensures { line_text self.new ≡ line_text self.old ++ text.now }
+    {
+        self.text.push_str(text);
+    }
+
     // A comma, and the number where there is one.
     fn push_field(&mut self, field: Option<i64>)
         requires { length (line_text self.old) + 21 ≤ 128 }
@@ -30,9 +38,10 @@ impl Line {
         }
     }
 
-    /// The bytes of the line.
+    /// The bytes of the line, at most 128.
     pub fn text(&self) -> &[u8]
-        ensures { result.now ≡ line_text self.now }
+        ensures text { result.now ≡ line_text self.now }
+        ensures within { length result.now ≤ 128 }
     {
         self.text.as_str().as_bytes()
     }
@@ -44,11 +53,11 @@ fn print_row(word: &str, fields: &[Option<i64>; FIELDS]) -> Line
     ensures { line_text result ≡ print_row word.now fields.now }
 {
     let mut line = Line::new();
-    line.text.push_str(word);
+    line.push_text(word);
     for field in fields {
         line.push_field(*field);
     }
-    line.text.push_str("\r\n");
+    line.push_text("\r\n");
     line
 }
 
